@@ -1,0 +1,5 @@
+pub mod Plain
+pub mod View
+pub mod Table
+pub mod Program
+pub mod ProgramView

@@ -1,0 +1,62 @@
+//! Why a kernel text is refused.
+
+use std::alloc::{AllocError, AllocFailed};
+use thiserror::Error;
+
+/// The first reason that applies to the first item that fails. The code is what a report prints.
+#[derive(Clone, Copy, Debug, PartialEq, Eq, Error)]
+pub enum KernelReason {
+    /// A byte that belongs to no token.
+    #[error("K1")]
+    K1,
+    /// An item of no production, one that never closes, or one out of place.
+    #[error("K2")]
+    K2,
+    /// An item of no production that holds a token of what this project leaves out.
+    #[error("K3")]
+    K3,
+    /// A name that is defined a second time in its scope.
+    #[error("K4")]
+    K4,
+}
+
+/// A refusal: the line of the text, counted from 1, and the reason.
+#[derive(Clone, Copy, Debug, PartialEq, Eq, Error)]
+#[error("{line}: {reason}")]
+pub struct KernelFault {
+    pub line: u32,
+    pub reason: KernelReason,
+}
+
+/// Why a call that reads a kernel has no answer.
+#[derive(Clone, Copy, Debug, PartialEq, Eq, Error)]
+pub enum KernelStop {
+    /// The text is refused.
+    #[error("{0}")]
+    Refused(KernelFault),
+    /// Memory was refused. It says nothing of the text.
+    #[error("memory")]
+    Memory,
+}
+
+impl From<AllocError> for KernelStop {
+    ghost use Rattle.std.specs.Prelude.{◌≡◌};
+    ghost use Rattle.ir_ast.specs.declared.fault.KernelStop.TheVariants.{Memory};
+
+    ghost from_gives = { λ _ stop. stop ≡ Memory };
+
+    fn from(_: AllocError) -> KernelStop {
+        KernelStop::Memory
+    }
+}
+
+impl<T: Drop> From<AllocFailed<T>> for KernelStop {
+    ghost use Rattle.std.specs.Prelude.{◌≡◌};
+    ghost use Rattle.ir_ast.specs.declared.fault.KernelStop.TheVariants.{Memory};
+
+    ghost from_gives = { λ _ stop. stop ≡ Memory };
+
+    fn from(_: AllocFailed<T>) -> KernelStop {
+        KernelStop::Memory
+    }
+}
