@@ -1,0 +1,175 @@
+-- What an item carries no meaning in, and is dropped: whole items, and tokens of the others.
+use Rattle.std.specs.Prelude.{ℕ, zero, suc, ◌+◌, ◌-◌, Bool, true, false, not, ◌&&◌, ◌||◌, ◌==◌, if◌then◌else◌, Option, Some, None, option_map, List, [], ◌∷◌, ◌++◌, take, drop, length, codes, bytes_eq, nat_eq}
+use Rattle.std.specs.List.{starts_with}
+use Rattle.std.specs.Char.{is_ascii_digit}
+use Rattle.ir_lex.specs.Bytes.{run, begins_with}
+use Rattle.ir_lex.specs.Lexeme.{Lexeme}
+use Rattle.ir_lex.specs.Marks.{is_word, is_mark, front_passes}
+use Rattle.ir_lex.specs.Cut.{open_after, is_none_open, takes_parentheses}
+use Rattle.ir_lex.specs.Names.{sigil_name}
+use Rattle.ir_lex.specs.declared.token.TokenKind.{TokenKind}
+use Rattle.ir_lex.specs.declared.token.TokenKind.TheVariants.{Word, Number, Quoted, Global, Metadata, Attribute}
+use Rattle.ir_lex.specs.declared.drops.Front.{Front}
+use Rattle.ir_lex.specs.declared.drops.Front.TheVariants.{Kept, Dropped, Unclosed}
+
+-- ---- the tokens that the rules name
+
+abbrev pub are_digits : List ℕ → Bool
+are_digits bytes = run is_ascii_digit bytes == length bytes
+
+-- digits, a string without `c`, `#N`, `!N`, a metadata name, a global name
+abbrev pub digits_kind : TokenKind → List ℕ → Bool
+digits_kind Number text = not (begins_with 45 text)
+digits_kind _ text = false
+
+abbrev pub is_digits : Lexeme → Bool
+is_digits t = digits_kind t.kind t.text
+
+abbrev pub begins_digits : List Lexeme → Bool
+begins_digits ts = front_passes is_digits ts
+
+abbrev pub string_kind : TokenKind → List ℕ → Bool
+string_kind Quoted text = begins_with 34 text
+string_kind _ text = false
+
+abbrev pub is_string : Lexeme → Bool
+is_string t = string_kind t.kind t.text
+
+abbrev pub attribute_kind : TokenKind → Bool
+attribute_kind Attribute = true
+attribute_kind _ = false
+
+abbrev pub is_attribute_number : Lexeme → Bool
+is_attribute_number t = attribute_kind t.kind && are_digits (drop 1 t.text)
+
+abbrev pub metadata_kind : TokenKind → Bool
+metadata_kind Metadata = true
+metadata_kind _ = false
+
+abbrev pub is_metadata : Lexeme → Bool
+is_metadata t = metadata_kind t.kind
+
+abbrev pub is_metadata_number : Lexeme → Bool
+is_metadata_number t = metadata_kind t.kind && are_digits (drop 1 t.text)
+
+abbrev pub global_kind : TokenKind → Bool
+global_kind Global = true
+global_kind _ = false
+
+-- ---- label items, which are kept as they are
+
+abbrev pub label_kind : TokenKind → List ℕ → Bool
+label_kind Word text = true
+label_kind Number text = not (begins_with 45 text)
+label_kind Quoted text = begins_with 34 text
+label_kind _ text = false
+
+-- a word, digits or a string with `:`
+abbrev pub begins_label : List Lexeme → Bool
+begins_label [] = false
+begins_label (t ∷ []) = false
+begins_label (t ∷ u ∷ ts) = label_kind t.kind t.text && is_mark 58 u
+
+-- ---- dropped tokens
+
+abbrev pub is_linkage : Lexeme → Bool
+is_linkage t = is_word (codes "private") t || is_word (codes "internal") t || is_word (codes "available_externally") t || is_word (codes "common") t
+
+abbrev pub is_weak_linkage : Lexeme → Bool
+is_weak_linkage t = is_word (codes "linkonce") t || is_word (codes "linkonce_odr") t || is_word (codes "weak") t || is_word (codes "weak_odr") t
+
+abbrev pub is_visibility : Lexeme → Bool
+is_visibility t = is_word (codes "hidden") t || is_word (codes "protected") t || is_word (codes "dso_local") t || is_word (codes "dso_preemptable") t || is_word (codes "unnamed_addr") t || is_word (codes "local_unnamed_addr") t
+
+abbrev pub is_call_word : Lexeme → Bool
+is_call_word t = is_word (codes "tail") t || is_word (codes "notail") t || is_word (codes "musttail") t || is_word (codes "fastcc") t || is_word (codes "ccc") t
+
+abbrev pub is_value_attribute : Lexeme → Bool
+is_value_attribute t = is_word (codes "noundef") t || is_word (codes "zeroext") t || is_word (codes "signext") t || is_word (codes "inreg") t || is_word (codes "returned") t || is_word (codes "immarg") t
+
+abbrev pub is_pointer_attribute : Lexeme → Bool
+is_pointer_attribute t = is_word (codes "noalias") t || is_word (codes "nonnull") t || is_word (codes "nocapture") t || is_word (codes "nofree") t
+
+abbrev pub is_effect_attribute : Lexeme → Bool
+is_effect_attribute t = is_word (codes "readonly") t || is_word (codes "readnone") t || is_word (codes "writeonly") t || is_word (codes "nounwind") t
+
+abbrev pub is_dropped_word : Lexeme → Bool
+is_dropped_word t = is_linkage t || is_weak_linkage t || is_visibility t || is_call_word t || is_value_attribute t || is_pointer_attribute t || is_effect_attribute t
+
+-- `section STRING`, and `!KIND !N` for every kind but `range`: these take a comma before them along
+abbrev pub is_dropped_pair : Lexeme → Lexeme → Bool
+is_dropped_pair t u = (is_word (codes "section") t && is_string u) || (is_metadata t && not (bytes_eq t.text (codes "!range")) && is_metadata_number u)
+
+abbrev pub pairs_dropped : Lexeme → List Lexeme → Bool
+pairs_dropped t [] = false
+pairs_dropped t (u ∷ ts) = is_dropped_pair t u
+
+abbrev pub begins_dropped_pair : List Lexeme → Bool
+begins_dropped_pair [] = false
+begins_dropped_pair (t ∷ ts) = pairs_dropped t ts
+
+-- how many tokens stand up to the one that closes all brackets, given those that are open
+abbrev pub group_length : List ℕ → List Lexeme → Option ℕ
+group_length open_marks [] = None
+group_length open_marks (t ∷ ts) = if is_none_open (open_after open_marks t) then Some 1 else option_map (λ n. n + 1) (group_length (open_after open_marks t) ts)
+
+-- a word with its parentheses; where they never close, no more of the item is dropped
+abbrev pub dropped_group : Option ℕ → Front
+dropped_group (Some n) = Dropped (n + 1)
+dropped_group None = Unclosed
+
+-- what of the front is dropped, behind a comma or not
+abbrev pub front_from : Bool → Lexeme → List Lexeme → Front
+front_from after_comma t ts =
+    if is_mark 44 t && begins_dropped_pair ts then Dropped 3
+    else (if pairs_dropped t ts then Dropped 2
+    else (if is_dropped_word t || is_attribute_number t then Dropped 1
+    else (if is_word (codes "align") t && not after_comma && begins_digits ts then Dropped 2
+    else (if takes_parentheses t && front_passes (is_mark 40) ts then dropped_group (group_length [] ts)
+    else Kept))))
+
+abbrev pub front_of : Bool → List Lexeme → Front
+front_of after_comma [] = Kept
+front_of after_comma (t ∷ ts) = front_from after_comma t ts
+
+abbrev pub after_front : Front → Lexeme → List Lexeme → (ℕ → Bool → List Lexeme) → List Lexeme
+after_front Kept t ts on = t ∷ on 0 (is_mark 44 t)
+after_front (Dropped n) t ts on = on (n - 1) false
+after_front Unclosed t ts on = t ∷ ts
+
+-- the tokens that remain, behind a comma or not, where so many are passed over
+unfoldable pub remaining_from : ℕ → Bool → List Lexeme → List Lexeme
+remaining_from skip after_comma [] = []
+remaining_from (suc k) after_comma (t ∷ ts) = remaining_from k after_comma ts
+remaining_from zero after_comma (t ∷ ts) = after_front (front_from after_comma t ts) t ts (λ skip comma. remaining_from skip comma ts)
+
+abbrev pub label_length : List Lexeme → ℕ
+label_length ts = if begins_label ts then 2 else 0
+
+-- the tokens of an item that remain; the name and the `:` of a label stay as they are
+unfoldable pub remaining : List Lexeme → List Lexeme
+remaining ts = take (label_length ts) ts ++ remaining_from 0 false (drop (label_length ts) ts)
+
+-- ---- dropped items
+
+-- `source_filename`, `attributes`, a metadata name, `#dbg_..`, `target triple`
+abbrev pub begins_dropped : List Lexeme → Bool
+begins_dropped [] = false
+begins_dropped (t ∷ ts) =
+    is_word (codes "source_filename") t || is_word (codes "attributes") t || is_metadata t
+    || (attribute_kind t.kind && starts_with nat_eq t.text (codes "#dbg_"))
+    || (is_word (codes "target") t && front_passes (is_word (codes "triple")) ts)
+
+-- the first global name begins with `llvm.dbg.` and has its arguments directly behind it
+abbrev pub names_debug : List Lexeme → Bool
+names_debug [] = false
+names_debug (t ∷ ts) = if global_kind t.kind then starts_with nat_eq (sigil_name t.text) (codes "llvm.dbg.") && front_passes (is_mark 40) ts else names_debug ts
+
+-- a call of such a function, with `tail` or not
+abbrev pub calls_debug : List Lexeme → Bool
+calls_debug [] = false
+calls_debug (t ∷ ts) = if is_word (codes "call") t || (is_word (codes "tail") t && front_passes (is_word (codes "call")) ts) then names_debug ts else false
+
+-- the item is dropped whole
+unfoldable pub is_dropped_item : List Lexeme → Bool
+is_dropped_item ts = not (begins_label ts) && (begins_dropped ts || calls_debug ts)

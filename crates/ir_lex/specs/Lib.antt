@@ -1,0 +1,16 @@
+pub mod Bytes
+pub mod Lexeme
+pub mod Lex
+pub mod Within
+pub mod Marks
+pub mod Cut
+pub mod Names
+pub mod Drop
+pub mod Tok
+pub mod Decimal
+pub mod TypeSpelling
+pub mod ValueSpelling
+pub mod Parts
+pub mod Rows
+pub mod Items
+pub mod Laws

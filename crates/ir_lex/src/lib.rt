@@ -1,0 +1,25 @@
+//! The kernel text cut into tokens and items.
+//!
+//! The second layer of the kernel reader: bytes come in, and tokens, items and the tokens that a reader looks at go out. Each is a
+//! slice of the text that came in. Only the lexer refuses a text.
+#![tactic(auto)]
+
+mod brackets;
+mod bytes;
+pub mod cut;
+pub mod drops;
+pub mod laws;
+mod lexer;
+pub mod name;
+mod piece;
+mod tell;
+pub mod token;
+
+pub use cut::{Item, ItemList, items};
+pub use drops::{begins_label, is_dropped_item, remaining};
+pub use lexer::tokens;
+pub use name::{plain_name, sigil_name};
+pub use token::{Token, TokenKind, TokenList};
+
+#[cfg(test)]
+mod tests;
