@@ -1,0 +1,4 @@
+pub mod Text
+pub mod Spelling
+pub mod Row
+pub mod Reading
