@@ -1,0 +1,24 @@
+-- The place of a name among references to names.
+use Rattle.std.proofs.Common.{◌≡◌, ℕ, Bool, not, List, [], ◌∷◌, map, length, position, bytes_eq, refl, ap, ◌∙◌, sym, arith}
+use Rattle.std.specs.List.{prefix_len, position_or_len}
+use Rattle.std.proofs.lemmas.Grind.{common_steps}
+use Rattle.spec_text.specs.Spelling.{place_of}
+use Rattle.spec_text.specs.Texts.{texts}
+use denote.Ref.{Bor}
+
+prefix_len-map : {X Y : Type 0} (p : Y → Bool) (f : X → Y) (xs : List X) → prefix_len p (map f xs) ≡ prefix_len (λ x. p (f x)) xs
+prefix_len-map p f [] = refl
+prefix_len-map p f (x ∷ xs) = rw (prefix_len-map p f xs) refl
+
+length-map : {X Y : Type 0} (f : X → Y) (xs : List X) → length (map f xs) ≡ length xs
+length-map f [] = refl
+length-map f (x ∷ xs) = rw (length-map f xs) refl
+
+pub position-map : {X Y : Type 0} (p : Y → Bool) (f : X → Y) (xs : List X) → position p (map f xs) ≡ position (λ x. p (f x)) xs
+position-map p f xs = rw (prefix_len-map (λ y. not (p y)) f xs, length-map f xs) refl
+
+pub place_texts : (n : List ℕ) (names : List (Bor (List ℕ))) → place_of n (texts names) ≡ position (λ w. bytes_eq n w.now) names
+place_texts n names = position-map (bytes_eq n) (λ w. w.now) names
+
+pub place_names : {X : Type 0} (n : List ℕ) (name : X → List ℕ) (xs : List X) → place_of n (map name xs) ≡ position (λ x. bytes_eq n (name x)) xs
+place_names n name xs = position-map (bytes_eq n) name xs

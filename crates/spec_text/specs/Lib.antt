@@ -1,0 +1,9 @@
+pub mod Lexing
+pub mod Rows
+pub mod Spelling
+pub mod Reading
+pub mod Views
+pub mod Texts
+pub mod Front
+pub mod Refusing
+pub mod Parts
