@@ -1,0 +1,2 @@
+mod Coverage
+mod Never
