@@ -1,0 +1,9 @@
+pub mod Clauses
+pub mod Dimacs
+pub mod DimacsText
+pub mod Hint
+pub mod Layout
+pub mod Literal
+pub mod Partial
+pub mod PartialView
+pub mod Text
