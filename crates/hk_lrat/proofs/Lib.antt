@@ -1,0 +1,6 @@
+pub mod Accept
+pub mod Denied
+pub mod Look
+pub mod Refuted
+pub mod Sound
+pub mod Spelling

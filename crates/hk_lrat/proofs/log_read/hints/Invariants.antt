@@ -1,0 +1,11 @@
+use Rattle.std.proofs.Common.{◌≡◌, false, length}
+use Rattle.hk_cnf.specs.Text.{words_of}
+use Rattle.hk_lrat.specs.LogText.{part, after_items, hint_in}
+use Rattle.hk_lrat.proofs.log_read.hints.Given as goal
+
+abbrev pub invariant-loop-word : goal.invariant-loop-word
+invariant-loop-word l =
+    (after_items l.hints.items (part hint_in (words_of false l.rest)) ≡ after_items l.initial.hints.items (part hint_in (words_of false l.line)))
+
+abbrev pub decreases-loop-word : goal.decreases-loop-word
+decreases-loop-word l = length l.rest

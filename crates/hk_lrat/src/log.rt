@@ -1,0 +1,245 @@
+//! Logs of additions and deletions, and why one is refused.
+
+ghost use Rattle.std.specs.Prelude.{◌≡◌, ◌==◌, ◌++◌, [], ◌∷◌, length, OnOk, OnErr};
+ghost use Rattle.hk_lrat.specs.declared.log.RefuteStop.TheVariants.{Memory};
+ghost use Rattle.hk_lrat.specs.Log.{is_nil, is_empty_addition};
+
+use hk_cnf::Lit;
+use std::alloc::{AllocError, AllocFailed, Global};
+use std::marker::Model;
+use thiserror::Error;
+
+/// The literals of a clause.
+#[derive(Drop, Debug)]
+pub struct LitList {
+    items: Vec<Lit>,
+}
+
+impl Model for LitList {
+    ghost use Rattle.std.specs.Prelude.{List, ℤ};
+
+    ghost Value = { List ℤ };
+
+    ghost view = { λ l. l.items.items };
+}
+
+impl LitList {
+    /// The empty clause.
+    pub fn new(alloc: Global) -> LitList
+        ensures { result ≡ [] }
+    {
+        LitList {
+            items: Vec::new(alloc),
+        }
+    }
+
+    /// The clause of these literals.
+    pub fn from_vec(items: Vec<Lit>) -> LitList
+        ensures { result ≡ items.items }
+    {
+        LitList { items }
+    }
+
+    /// A literal more. Without memory the list is as before.
+    pub fn push(&mut self, lit: Lit) -> Result<(), AllocError>
+        ensures ok { OnOk result (self.new ≡ self.old ++ lit ∷ []) }
+        ensures err { OnErr result (self.new ≡ self.old) }
+    {
+        self.items.push(lit)?;
+        Ok(())
+    }
+
+    /// Whether there is no literal.
+    pub fn is_empty(&self) -> bool
+        ensures { result ≡ is_nil self.now }
+    {
+        match self.items.as_slice() {
+            [] => true,
+            _ => false,
+        }
+    }
+
+    /// The literals.
+    pub fn as_slice(&self) -> &[Lit]
+        ensures { result.now ≡ self.now }
+    {
+        self.items.as_slice()
+    }
+}
+
+/// Ids of clauses.
+#[derive(Drop, Debug)]
+pub struct IdList {
+    items: Vec<u64>,
+}
+
+impl Model for IdList {
+    ghost use Rattle.std.specs.Prelude.{List, ℕ};
+
+    ghost Value = { List ℕ };
+
+    ghost view = { λ l. l.items.items };
+}
+
+impl IdList {
+    /// No id.
+    pub fn new(alloc: Global) -> IdList
+        ensures { result ≡ [] }
+    {
+        IdList {
+            items: Vec::new(alloc),
+        }
+    }
+
+    /// These ids.
+    pub fn from_vec(items: Vec<u64>) -> IdList
+        ensures { result ≡ items.items }
+    {
+        IdList { items }
+    }
+
+    /// An id more. Without memory the list is as before.
+    pub fn push(&mut self, id: u64) -> Result<(), AllocError>
+        ensures ok { OnOk result (self.new ≡ self.old ++ id ∷ []) }
+        ensures err { OnErr result (self.new ≡ self.old) }
+    {
+        self.items.push(id)?;
+        Ok(())
+    }
+
+    /// The ids.
+    pub fn as_slice(&self) -> &[u64]
+        ensures { result.now ≡ self.now }
+    {
+        self.items.as_slice()
+    }
+}
+
+/// A row of a log.
+#[derive(Drop, Debug)]
+pub enum LratRow {
+    /// Adds a clause under an id, with the ids of the clauses that show it in order.
+    Add {
+        id: u64,
+        clause: LitList,
+        hints: IdList,
+    },
+    /// Deletes the clauses of these ids.
+    Delete {
+        ids: IdList,
+    },
+}
+
+impl LratRow {
+    /// Whether the row adds the empty clause.
+    pub fn is_empty_addition(&self) -> bool
+        ensures { result ≡ is_empty_addition self.now }
+    {
+        match self {
+            LratRow::Add { clause, .. } => clause.is_empty(),
+            LratRow::Delete { .. } => false,
+        }
+    }
+}
+
+/// A log: rows in their order.
+#[derive(Drop, Debug)]
+pub struct LratLog {
+    rows: Vec<LratRow>,
+}
+
+impl Model for LratLog {
+    ghost use Rattle.std.specs.Prelude.{List};
+    ghost use Rattle.hk_lrat.specs.declared.log.LratRow.{LratRow};
+
+    ghost Value = { List LratRow };
+
+    ghost view = { λ l. l.rows.items };
+}
+
+impl LratLog {
+    /// The log without a row.
+    pub fn new(alloc: Global) -> LratLog
+        ensures { result ≡ [] }
+    {
+        LratLog {
+            rows: Vec::new(alloc),
+        }
+    }
+
+    /// A row more at the end. Without memory the log is as before.
+    pub fn push(&mut self, row: LratRow) -> Result<(), AllocError>
+        ensures ok { OnOk result (self.new ≡ self.old ++ row ∷ []) }
+        ensures err { OnErr result (self.new ≡ self.old) }
+    {
+        self.rows.push(row)?;
+        Ok(())
+    }
+
+    /// The rows.
+    pub fn as_slice(&self) -> &[LratRow]
+        ensures { result.now ≡ self.now }
+    {
+        self.rows.as_slice()
+    }
+
+    /// The number of rows.
+    pub fn len(&self) -> usize
+        ensures { result ≡ length self.now }
+    {
+        self.rows.len()
+    }
+
+    /// Whether there is no row.
+    pub fn is_empty(&self) -> bool
+        ensures { result ≡ (length self.now == 0) }
+    {
+        self.rows.is_empty()
+    }
+}
+
+/// Why a row, or a whole log, is refused.
+#[derive(Clone, Copy, PartialEq, Eq, Debug)]
+pub enum RowReason {
+    /// The row is not spelled, has a literal outside the variables, or a literal together with its negation.
+    L1,
+    /// The id is not greater than every id before it.
+    L2,
+    /// A hint or a deleted id names no live clause.
+    L3,
+    /// A hint clause is neither unit nor false.
+    L4,
+    /// The hints end without a false clause.
+    L5,
+    /// A hint is negative.
+    L6,
+    /// All rows are accepted, and none adds the empty clause.
+    L7,
+}
+
+/// Why a log was refused, or that memory was wanting.
+#[derive(Debug, Drop, Error)]
+pub enum RefuteStop {
+    /// The row, counted from 1, that fails first, with its first reason; for `L7` the number of rows.
+    #[error("row {row}: {reason:?}")]
+    Row { row: u64, reason: RowReason },
+    /// Want of memory.
+    #[error("want of memory")]
+    Memory,
+}
+
+impl From<AllocError> for RefuteStop {
+    ghost from_gives = { λ _ stop. stop ≡ Memory };
+
+    fn from(_error: AllocError) -> RefuteStop {
+        RefuteStop::Memory
+    }
+}
+
+impl<T: Drop> From<AllocFailed<T>> for RefuteStop {
+    ghost from_gives = { λ _ stop. stop ≡ Memory };
+
+    fn from(_failed: AllocFailed<T>) -> RefuteStop {
+        RefuteStop::Memory
+    }
+}
