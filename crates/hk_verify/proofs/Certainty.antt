@@ -1,0 +1,151 @@
+-- From what an answer means to the headline: the verdict at a handler's place is right for that handler.
+
+use Rattle.std.proofs.Common.{ℕ, zero, suc, ◌+◌, ◌<◌, ◌≤◌, ◌≡◌, ◌⊎◌, inl, inr, List, [], ◌∷◌, ◌++◌, Option, None, Some, IsSome, unwrap_or, length, slice_get, refl, ap, sym, ◌∙◌, subst, arith}
+use Rattle.std.specs.List.{AllZip}
+use Rattle.std.proofs.lemmas.List.{append_assoc, append-nil}
+use Rattle.ir_thin.specs.Spelling.{IsKernelText}
+use Rattle.hk_io.specs.Held.{Files, held_under}
+use Rattle.ir_thin.specs.declared.tree.Kernel.{Kernel}
+use Rattle.spec_thin.specs.declared.tree.Spec.{Spec}
+use Rattle.spec_thin.specs.declared.tree.Transition.{Transition}
+use Rattle.spec_text.specs.Spelling.{IsSpecText}
+use Rattle.hk_replay.specs.declared.Obligation.{Obligation}
+use Rattle.hk_replay.specs.declared.Case.{Case}
+use Rattle.hk_replay.specs.Violation.{IsCorrect}
+use Rattle.hk_report.specs.declared.verdict.Verdict.{Verdict}
+use Rattle.hk_report.specs.declared.verdict.Verdict.TheVariants.{Accepted, Rejected}
+use Rattle.hk_decide.specs.Right.{IsRight}
+use Rattle.hk_verify.specs.declared.answer.Answer.{Answer}
+use Rattle.hk_verify.specs.declared.answer.TopFault.{TopFault}
+use Rattle.hk_verify.specs.declared.answer.TopFault.TheVariants.{Usage, Read, Long, Kernel as OfKernel, Spec as OfSpec, Wide, Memory, Write}
+use Rattle.hk_verify.specs.Words.{IsVerify, HasNoForm}
+use Rattle.hk_verify.specs.Inputs.{ShelfView, IsLoaded, AreRead, kernel_limit, spec_limit}
+use Rattle.hk_verify.specs.Verdicts.{AreRight, AreCut}
+use Rattle.hk_verify.specs.Answers.{SinkView, IsCut, IsInitCut, IsReported, IsEnded, IsUsage, IsWhole, Means, ReportsWith}
+use Rattle.hk_verify.specs.Headline.{IsHandler, AcceptsCorrect, RejectsRefuted, Refutes}
+
+-- What is there is one thing.
+some_is : {A : Type 0} {x y : A} → Some x ≡ Some y → x ≡ y
+some_is {x = x} same = ap (λ o. unwrap_or o x) same
+
+-- The relation holds at each place that both lists have, also where the first goes on.
+at_place : {A B : Type 0} (R : A → B → Type 0) (xs more : List A) (ys : List B) (h : ℕ) (x : A) (y : B)
+    → AllZip R xs ys → slice_get (xs ++ more) h ≡ Some x → slice_get ys h ≡ Some y → R x y
+at_place R (a ∷ xs) more (b ∷ ys) zero x y all there here =
+    subst (λ v. R v y) (some_is there) (subst (R a) (some_is here) all.0)
+at_place R (a ∷ xs) more (b ∷ ys) (suc h) x y all there here = at_place R xs more ys h x y all.1 there here
+at_place R [] more [] h x y all there here = cc
+at_place R [] more (b ∷ ys) h x y all there here = absurd all
+at_place R (a ∷ xs) more [] h x y all there here = absurd all
+
+-- One more pair at the end of both.
+all_and_last : {A B : Type 0} (R : A → B → Type 0) (xs : List A) (ys : List B) (x : A) (y : B) → AllZip R xs ys → R x y → AllZip R (xs ++ x ∷ []) (ys ++ y ∷ [])
+all_and_last R [] [] x y all one = (one, tt)
+all_and_last R (a ∷ xs) (b ∷ ys) x y all one = (all.0, all_and_last R xs ys x y all.1 one)
+all_and_last R [] (b ∷ ys) x y all one = absurd all
+all_and_last R (a ∷ xs) [] x y all one = absurd all
+
+nothing_there : {A : Type 0} (xs : List A) (h : ℕ) (x : A) → xs ≡ [] → slice_get xs h ≡ Some x → ⊥
+nothing_there [] h x empty there = cc
+nothing_there (a ∷ xs) h x empty there = cc
+
+-- Verdicts that were reported are right.
+of_cut : (kernel : Kernel) (spec : Spec) (verdicts : List Verdict) (shown shown' : Option (List ℕ)) (h : ℕ) (t : Transition) (v : Verdict)
+    → AreCut kernel spec verdicts shown shown' → slice_get spec.transitions h ≡ Some t → slice_get verdicts h ≡ Some v → IsRight kernel spec t v
+of_cut kernel spec verdicts shown shown' h t v cut there here =
+    let parts : (cut.before ++ cut.failed ∷ []) ++ cut.behind ≡ spec.transitions = append_assoc cut.before (cut.failed ∷ []) cut.behind ∙ sym cut.handlers in
+    at_place (IsRight kernel spec) (cut.before ++ cut.failed ∷ []) cut.behind (cut.front ++ cut.last ∷ []) h t v
+    (all_and_last (IsRight kernel spec) cut.before cut.front cut.failed cut.last cut.right cut.right_last)
+    (subst (λ ts. slice_get ts h ≡ Some t) (sym parts) there)
+    (subst (λ vs. slice_get vs h ≡ Some v) cut.parts here)
+
+of_report : (sink : SinkView) (kernel : Kernel) (spec : Spec) (answer : Answer) (fault : Option TopFault) (h : ℕ) (t : Transition) (v : Verdict)
+    → ReportsWith sink kernel spec answer fault → slice_get spec.transitions h ≡ Some t → slice_get answer.verdicts h ≡ Some v → IsRight kernel spec t v
+of_report sink kernel spec answer None h t v whole there here =
+    at_place (IsRight kernel spec) spec.transitions [] answer.verdicts h t v whole.right (subst (λ ts. slice_get ts h ≡ Some t) (sym (append-nil spec.transitions)) there) here
+of_report sink kernel spec answer (Some Write) h t v cut there here =
+    elim cut.shown as (λ _. IsRight kernel spec t v) [ inl opening ↦ absurd (nothing_there answer.verdicts h v opening.none here) | inr last ↦ of_cut kernel spec answer.verdicts _ _ h t v last there here ]
+of_report sink kernel spec answer (Some Usage) h t v reports there here = absurd reports
+of_report sink kernel spec answer (Some (Read w)) h t v reports there here = absurd reports
+of_report sink kernel spec answer (Some (Long w)) h t v reports there here = absurd reports
+of_report sink kernel spec answer (Some (OfKernel f)) h t v reports there here = absurd reports
+of_report sink kernel spec answer (Some (OfSpec f)) h t v reports there here = absurd reports
+of_report sink kernel spec answer (Some (Wide w)) h t v reports there here = absurd reports
+of_report sink kernel spec answer (Some Memory) h t v reports there here = absurd reports
+
+-- The text that was loaded is the one that is held.
+same_text : (held : Option Files) (name : List ℕ) (limit : ℕ) (text loaded : List ℕ) → IsLoaded held name limit loaded → held_under held name ≡ Some text → loaded ≡ text
+same_text None name limit text loaded load there = cc
+same_text (Some files) name limit text loaded load there = some_is (sym (load.told refl) ∙ there)
+
+-- Words name one kernel and one specification.
+second : List (List ℕ) → List ℕ
+second (a ∷ b ∷ words) = b
+second (a ∷ []) = []
+second [] = []
+
+third : List (List ℕ) → List ℕ
+third (a ∷ b ∷ c ∷ words) = c
+third (a ∷ b ∷ []) = []
+third (a ∷ []) = []
+third [] = []
+
+same_kernel_name : (words : List (List ℕ)) (k s k' s' : List ℕ) → IsVerify words k s → IsVerify words k' s' → k ≡ k'
+unfolding second
+same_kernel_name words k s k' s' form form' = ap second (sym form ∙ form')
+
+same_spec_name : (words : List (List ℕ)) (k s k' s' : List ℕ) → IsVerify words k s → IsVerify words k' s' → s ≡ s'
+unfolding third
+same_spec_name words k s k' s' form form' = ap third (sym form ∙ form')
+
+-- The kernel and the specification that were read are those that the held texts spell.
+of_read : (held : Option Files) (words : List (List ℕ)) (kernel_name spec_name : List ℕ) (kernel other : Kernel) (spec other_spec : Spec) (h : ℕ) (t : Transition) (v : Verdict)
+    → IsVerify words kernel_name spec_name → AreRead held kernel_name spec_name other other_spec → IsHandler held words kernel spec h t
+    → (slice_get other_spec.transitions h ≡ Some t → IsRight other other_spec t v) → IsRight kernel spec t v
+of_read held words kernel_name spec_name kernel other spec other_spec h t v form read handler right =
+    let same_k : handler.kernel_name ≡ kernel_name = same_kernel_name words _ _ _ _ handler.form form in
+    let same_s : handler.spec_name ≡ spec_name = same_spec_name words _ _ _ _ handler.form form in
+    let kernel_text : read.kernel_text ≡ handler.kernel_text = same_text held kernel_name kernel_limit handler.kernel_text read.kernel_text read.loaded.kernel_loaded
+    (subst (λ n. held_under held n ≡ Some handler.kernel_text) same_k handler.kernel_held) in
+    let spec_text : read.spec_text ≡ handler.spec_text = same_text held spec_name spec_limit handler.spec_text read.spec_text read.loaded.spec_loaded
+    (subst (λ n. held_under held n ≡ Some handler.spec_text) same_s handler.spec_held) in
+    let is_kernel : kernel ≡ other = read.the_kernel.only kernel (subst (λ text. IsKernelText text kernel) (sym kernel_text) handler.kernel_spelled) in
+    let is_spec : spec ≡ other_spec = read.the_spec.only spec (subst (λ k. IsSpecText k read.spec_text spec) is_kernel
+    (subst (λ text. IsSpecText kernel text spec) (sym spec_text) handler.spec_spelled)) in
+    let there = subst (λ s. slice_get s.transitions h ≡ Some t) is_spec handler.there in
+    subst (λ k. IsRight k spec t v) (sym is_kernel) (subst (λ s. IsRight other s t v) (sym is_spec) (right there))
+
+-- The verdict at a handler's place is right.
+right_at : (shelf : ShelfView) (sink : SinkView) (words : List (List ℕ)) (kernel_name spec_name : List ℕ) (answer : Answer) (kernel : Kernel) (spec : Spec) (h : ℕ) (t : Transition) (v : Verdict)
+    → IsVerify words kernel_name spec_name → Means shelf sink words kernel_name spec_name answer → IsHandler shelf.held words kernel spec h t
+    → slice_get answer.verdicts h ≡ Some v → IsRight kernel spec t v
+right_at shelf sink words kernel_name spec_name answer kernel spec h t v form (inl reported) handler here =
+    of_read shelf.held words kernel_name spec_name kernel reported.kernel spec reported.spec h t v form reported.read handler
+    (λ there. of_report sink reported.kernel reported.spec answer answer.fault h t v reported.reports there here)
+right_at shelf sink words kernel_name spec_name answer kernel spec h t v form (inr ended) handler here =
+    absurd (nothing_there answer.verdicts h v ended.refused.verdicts here)
+
+pub accepts : (shelf : ShelfView) (sink : SinkView) (words : List (List ℕ)) (kernel_name spec_name : List ℕ) (answer : Answer)
+    → IsVerify words kernel_name spec_name → Means shelf sink words kernel_name spec_name answer → AcceptsCorrect shelf.held words answer
+accepts shelf sink words kernel_name spec_name answer form means kernel spec h t handler here =
+    right_at shelf sink words kernel_name spec_name answer kernel spec h t Accepted form means handler here
+
+pub rejects : (shelf : ShelfView) (sink : SinkView) (words : List (List ℕ)) (kernel_name spec_name : List ℕ) (answer : Answer)
+    → IsVerify words kernel_name spec_name → Means shelf sink words kernel_name spec_name answer → RejectsRefuted shelf.held words answer
+rejects shelf sink words kernel_name spec_name answer form means kernel spec h t o c handler here =
+    let refuted = right_at shelf sink words kernel_name spec_name answer kernel spec h t (Rejected o c) form means handler here in
+    record { owed = refuted.owed; case_of = refuted.case_of; violates = refuted.violates }
+
+-- Words without a form have no handler.
+pub accepts_none : (held : Option Files) (words : List (List ℕ)) (answer : Answer) → HasNoForm words → AcceptsCorrect held words answer
+accepts_none held words answer none kernel spec h t handler here = absurd (none handler.kernel_name handler.spec_name handler.form)
+
+pub rejects_none : (held : Option Files) (words : List (List ℕ)) (answer : Answer) → HasNoForm words → RejectsRefuted held words answer
+rejects_none held words answer none kernel spec h t o c handler here = absurd (none handler.kernel_name handler.spec_name handler.form)
+
+-- What an answer means for the names of the words it means for any names that the words give.
+pub means_for : (shelf : ShelfView) (sink : SinkView) (words : List (List ℕ)) (k s k' s' : List ℕ) (answer : Answer)
+    → IsVerify words k s → IsVerify words k' s' → Means shelf sink words k s answer → Means shelf sink words k' s' answer
+means_for shelf sink words k s k' s' answer form form' means =
+    subst (λ name. Means shelf sink words k' name answer) (same_spec_name words k s k' s' form form')
+    (subst (λ name. Means shelf sink words name s answer) (same_kernel_name words k s k' s' form form') means)

@@ -1,0 +1,22 @@
+-- Three words.
+
+use Rattle.std.proofs.Common.{ℕ, ◌+◌, ◌<◌, ◌≤◌, ◌≡◌, List, [], ◌∷◌, length, map, slice_index_or, String, Global, string_bytes, refl, ap, sym, ◌∙◌, arith}
+
+-- A list of three is its first, second and third.
+three : {A : Type 0} (xs : List A) (a b c : A) → 3 ≤ length xs → length xs < 4
+    → a ≡ slice_index_or xs 0 a → b ≡ slice_index_or xs 1 b → c ≡ slice_index_or xs 2 c → xs ≡ a ∷ b ∷ c ∷ []
+three [] a b c long short first second third = absurd (omega (arith, long))
+three (x ∷ []) a b c long short first second third = absurd (omega (arith, long))
+three (x ∷ y ∷ []) a b c long short first second third = absurd (omega (arith, long))
+three (x ∷ y ∷ z ∷ []) a b c long short first second third =
+    sym (ap (λ v. v ∷ b ∷ c ∷ []) first ∙ ap (λ v. x ∷ v ∷ c ∷ []) second ∙ ap (λ v. x ∷ y ∷ v ∷ []) third)
+three (x ∷ y ∷ z ∷ w ∷ xs) a b c long short first second third = absurd (omega (arith, short))
+
+-- The bytes of three words.
+pub three_words : (words : List (String Global)) (a b c : String Global) (command kernel spec : List ℕ) → 3 ≤ length words → length words < 4
+    → a ≡ slice_index_or words 0 a → b ≡ slice_index_or words 1 b → c ≡ slice_index_or words 2 c
+    → string_bytes a ≡ command → kernel ≡ string_bytes b → spec ≡ string_bytes c → map string_bytes words ≡ command ∷ kernel ∷ spec ∷ []
+three_words words a b c command kernel spec long short first second third is_command is_kernel is_spec =
+    ap (map string_bytes) (three words a b c long short first second third)
+    ∙ ap (λ v. v ∷ string_bytes b ∷ string_bytes c ∷ []) is_command ∙ ap (λ v. command ∷ v ∷ string_bytes c ∷ []) (sym is_kernel)
+    ∙ ap (λ v. command ∷ kernel ∷ v ∷ []) (sym is_spec)

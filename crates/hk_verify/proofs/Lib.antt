@@ -1,0 +1,4 @@
+mod Certainty
+mod Forms
+mod Pushes
+mod Whole

@@ -1,0 +1,94 @@
+-- What an answer to `verify KERNEL SPEC` means: the headline, and the cause of each answer.
+
+use Rattle.std.specs.Prelude.{ℕ, ◌≡◌, ◌⊎◌, ◌++◌, ◌∷◌, [], List, Option, Some, None, ⊤, length, slice_get}
+use Rattle.hk_io.specs.Faults.{Rose}
+use Rattle.hk_io.specs.Shown.{shown_with, ShowsPrefix}
+use Rattle.ir_thin.specs.declared.tree.Kernel.{Kernel}
+use Rattle.spec_thin.specs.declared.tree.Spec.{Spec}
+use Rattle.hk_report.specs.declared.verdict.Verdict.{Verdict}
+use Rattle.hk_report.specs.declared.verdict.InitVerdict.TheVariants.{NotRun, Holds}
+use Rattle.hk_report.specs.Report.{init_text, report_text}
+use Rattle.hk_verify.specs.Verdicts.{AreRight, AreCut}
+use Rattle.hk_verify.specs.declared.answer.Answer.{Answer}
+use Rattle.hk_verify.specs.declared.answer.TopFault.{TopFault}
+use Rattle.hk_verify.specs.declared.answer.TopFault.TheVariants.{Usage, Read, Long, Kernel as OfKernel, Spec as OfSpec, Wide, Memory, Write}
+use Rattle.hk_verify.specs.Inputs.{ShelfView, AreRead, AreNarrow, HasCause}
+use Rattle.hk_verify.specs.Lines.{fault_text, fault_status, verdict_status}
+
+-- What a call sees of the sink: what is shown, where it tells of it, and its count of faults, before and after.
+pub record SinkView : Type 0 where
+  pub shown : Option (List ℕ)
+  pub shown' : Option (List ℕ)
+  pub faults : ℕ
+  pub faults' : ℕ
+
+-- The sink shows this text since; where its count rose, a prefix of it.
+abbrev pub Says : SinkView → List ℕ → Type 0
+Says sink text = (sink.shown' ≡ shown_with sink.shown text) ⊎ (Rose sink.faults sink.faults' × ShowsPrefix sink.shown sink.shown' text)
+
+-- The call ended with this fault before the line of the opening.
+pub record IsRefused (sink : SinkView) (words : List (List ℕ)) (name : List ℕ) (fault : TopFault) (answer : Answer) : Type 0 where
+  pub says : Says sink (fault_text words name fault)
+  pub status : answer.status ≡ fault_status fault
+  pub init : answer.init ≡ NotRun
+  pub verdicts : answer.verdicts ≡ []
+
+-- Every handler has its verdict, each is right, and the sink shows the report of them.
+pub record IsWhole (sink : SinkView) (kernel : Kernel) (spec : Spec) (answer : Answer) : Type 0 where
+  pub init : answer.init ≡ Holds
+  pub right : AreRight kernel spec spec.transitions answer.verdicts
+  pub says : sink.shown' ≡ shown_with sink.shown (report_text kernel spec Holds answer.verdicts)
+  pub status : answer.status ≡ verdict_status answer.verdicts
+
+-- The put of the opening failed.
+pub record IsInitCut (sink : SinkView) (verdicts : List Verdict) : Type 0 where
+  pub none : verdicts ≡ []
+  pub cut : ShowsPrefix sink.shown sink.shown' (init_text Holds)
+
+-- A put failed, and nothing was put behind it: that of the opening, or one of the last verdict's lines.
+pub record IsCut (sink : SinkView) (kernel : Kernel) (spec : Spec) (answer : Answer) : Type 0 where
+  pub failed : Rose sink.faults sink.faults'
+  pub init : answer.init ≡ Holds
+  pub shown : IsInitCut sink answer.verdicts ⊎ AreCut kernel spec answer.verdicts (shown_with sink.shown (init_text Holds)) sink.shown'
+  pub status : answer.status ≡ 6
+
+-- What the report of a kernel and a specification leaves, by the answer's fault: the whole report, or a failed put.
+abbrev pub ReportsWith : SinkView → Kernel → Spec → Answer → Option TopFault → Type 0
+ReportsWith sink kernel spec answer None = IsWhole sink kernel spec answer
+ReportsWith sink kernel spec answer (Some Write) = IsCut sink kernel spec answer
+ReportsWith sink kernel spec answer (Some Usage) = ⊥
+ReportsWith sink kernel spec answer (Some (Read w)) = ⊥
+ReportsWith sink kernel spec answer (Some (Long w)) = ⊥
+ReportsWith sink kernel spec answer (Some (OfKernel f)) = ⊥
+ReportsWith sink kernel spec answer (Some (OfSpec f)) = ⊥
+ReportsWith sink kernel spec answer (Some (Wide h)) = ⊥
+ReportsWith sink kernel spec answer (Some Memory) = ⊥
+
+abbrev pub Reports : SinkView → Kernel → Spec → Answer → Type 0
+Reports sink kernel spec answer = ReportsWith sink kernel spec answer answer.fault
+
+-- The texts were read, no handler is too wide, and this is their report.
+pub record IsReported (shelf : ShelfView) (sink : SinkView) (kernel_name spec_name : List ℕ) (answer : Answer) : Type 0 where
+  pub kernel : Kernel
+  pub spec : Spec
+  pub read : AreRead shelf.held kernel_name spec_name kernel spec
+  pub narrow : AreNarrow kernel spec.transitions
+  pub reports : Reports sink kernel spec answer
+
+-- The call ended before the line of the opening, with a fault that has its cause.
+pub record IsEnded (shelf : ShelfView) (sink : SinkView) (words : List (List ℕ)) (kernel_name spec_name : List ℕ) (answer : Answer) : Type 0 where
+  pub fault : TopFault
+  pub is_fault : answer.fault ≡ Some fault
+  pub name : List ℕ
+  pub cause : HasCause shelf kernel_name spec_name name fault
+  pub refused : IsRefused sink words name fault answer
+
+-- What the answer to `verify KERNEL SPEC` means: it was reported, or it ended before.
+abbrev pub Means : ShelfView → SinkView → List (List ℕ) → List ℕ → List ℕ → Answer → Type 0
+Means shelf sink words kernel_name spec_name answer =
+    IsReported shelf sink kernel_name spec_name answer ⊎ IsEnded shelf sink words kernel_name spec_name answer
+
+-- What the answer to words without a form means: the line of usage, and nothing was loaded.
+pub record IsUsage (sink : SinkView) (words : List (List ℕ)) (answer : Answer) : Type 0 where
+  pub is_fault : answer.fault ≡ Some Usage
+  pub refused : IsRefused sink words [] Usage answer

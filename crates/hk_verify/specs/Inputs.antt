@@ -1,0 +1,155 @@
+-- What was read: the texts that were loaded, the kernel and the specification that they spell, and why there is none.
+
+use Rattle.std.specs.Prelude.{ℕ, ◌+◌, ◌<◌, ◌≤◌, ◌≡◌, ◌⊎◌, List, Option, Some, None, IsSome, IsSomeAnd, All, ⊤, length, slice_get, take, Result, Ok, Err, ◌^◌}
+use Rattle.hk_io.specs.Faults.{Rose}
+use Rattle.hk_io.specs.Held.{Files, held_under}
+use Rattle.ir_ast.specs.declared.fault.KernelFault.{KernelFault}
+use Rattle.ir_thin.specs.declared.tree.Kernel.{Kernel}
+use Rattle.ir_thin.specs.Spelling.{IsKernelText, IsFault as IsRefusedKernel}
+use Rattle.spec_text.specs.declared.fault.SpecFault.{SpecFault}
+use Rattle.spec_thin.specs.declared.tree.Spec.{Spec}
+use Rattle.spec_thin.specs.declared.tree.Transition.{Transition}
+use Rattle.spec_text.specs.Spelling.{IsSpecText}
+use Rattle.spec_text.specs.Refusing.{IsRefused as IsRefusedSpec}
+use Rattle.hk_replay.specs.Violation.{case_bits}
+use Rattle.hk_verify.specs.declared.inputs.Inputs.{Inputs}
+use Rattle.hk_verify.specs.declared.answer.TopFault.{TopFault}
+use Rattle.hk_verify.specs.declared.answer.TopFault.TheVariants.{Usage, Read, Long, Kernel as OfKernel, Spec as OfSpec, Wide, Memory, Write}
+
+-- The most bytes of a kernel text: 16 MiB.
+abbrev pub kernel_limit : ℕ
+kernel_limit = 16777216
+
+-- The most bytes of a specification text: 1 MiB.
+abbrev pub spec_limit : ℕ
+spec_limit = 1048576
+
+-- What a call sees of the shelf: the files, where it tells of them, and its count of faults before and after.
+pub record ShelfView : Type 0 where
+  pub held : Option Files
+  pub before : ℕ
+  pub after : ℕ
+
+-- This text was loaded under the name.
+pub record IsLoaded (held : Option Files) (name : List ℕ) (limit : ℕ) (text : List ℕ) : Type 0 where
+  pub told : IsSome held → held_under held name ≡ Some text
+  pub within : length text ≤ limit
+
+-- Why the load of a word has no answer: the shelf failed in it, the file is too long, or memory was refused.
+abbrev pub IsLoadFault : Option Files → ℕ → ℕ → ℕ → List ℕ → ℕ → TopFault → Type 0
+IsLoadFault held before after word name limit (Read w) = (w ≡ word) × Rose before after
+IsLoadFault held before after word name limit (Long w) = (w ≡ word) × (IsSome held → IsSomeAnd (held_under held name) (λ text. limit < length text))
+IsLoadFault held before after word name limit Memory = ⊤
+IsLoadFault held before after word name limit Usage = ⊥
+IsLoadFault held before after word name limit (OfKernel f) = ⊥
+IsLoadFault held before after word name limit (OfSpec f) = ⊥
+IsLoadFault held before after word name limit (Wide h) = ⊥
+IsLoadFault held before after word name limit Write = ⊥
+
+-- Why one of the two loads has no answer: the first one, or the second one behind it.
+pub record IsSecondLoadFault (shelf : ShelfView) (kernel spec : List ℕ) (fault : TopFault) : Type 0 where
+  pub kernel_text : List ℕ
+  pub loaded : IsLoaded shelf.held kernel kernel_limit kernel_text
+  pub between : ℕ
+  pub later : shelf.before ≤ between
+  pub cause : IsLoadFault shelf.held between shelf.after 2 spec spec_limit fault
+
+abbrev pub IsFirstLoadFault : ShelfView → List ℕ → TopFault → Type 0
+IsFirstLoadFault shelf kernel fault = IsLoadFault shelf.held shelf.before shelf.after 1 kernel kernel_limit fault
+
+-- Both texts were loaded.
+pub record AreLoaded (held : Option Files) (kernel spec kernel_text spec_text : List ℕ) : Type 0 where
+  pub kernel_loaded : IsLoaded held kernel kernel_limit kernel_text
+  pub spec_loaded : IsLoaded held spec spec_limit spec_text
+
+-- The kernel that a text spells: this one, and no other.
+pub record IsTheKernel (text : List ℕ) (kernel : Kernel) : Type 0 where
+  pub spelled : IsKernelText text kernel
+  pub only : (other : Kernel) → IsKernelText text other → other ≡ kernel
+
+-- The specification that a text spells for a kernel: this one, and no other.
+pub record IsTheSpec (kernel : Kernel) (text : List ℕ) (spec : Spec) : Type 0 where
+  pub spelled : IsSpecText kernel text spec
+  pub only : (other : Spec) → IsSpecText kernel text other → other ≡ spec
+
+-- The texts were loaded and read.
+pub record AreRead (held : Option Files) (kernel_name spec_name : List ℕ) (kernel : Kernel) (spec : Spec) : Type 0 where
+  pub kernel_text : List ℕ
+  pub spec_text : List ℕ
+  pub loaded : AreLoaded held kernel_name spec_name kernel_text spec_text
+  pub the_kernel : IsTheKernel kernel_text kernel
+  pub the_spec : IsTheSpec kernel spec_text spec
+
+-- The first handler whose cases have more than sixteen bits.
+pub record IsFirstWide (kernel : Kernel) (transitions : List Transition) (h : ℕ) (t : Transition) : Type 0 where
+  pub there : slice_get transitions h ≡ Some t
+  pub wide : 16 < case_bits kernel t
+  pub earlier : All (λ before. case_bits kernel before ≤ 16) (take h transitions)
+
+-- No handler's cases have more than sixteen bits.
+abbrev pub AreNarrow : Kernel → List Transition → Type 0
+AreNarrow kernel transitions = All (λ t. case_bits kernel t ≤ 16) transitions
+
+-- The kernel text is no thin kernel.
+pub record RefusesKernel (held : Option Files) (kernel_name spec_name : List ℕ) (fault : KernelFault) : Type 0 where
+  pub kernel_text : List ℕ
+  pub spec_text : List ℕ
+  pub loaded : AreLoaded held kernel_name spec_name kernel_text spec_text
+  pub refused : IsRefusedKernel kernel_text fault
+
+-- The specification text is no thin specification for the kernel.
+pub record RefusesSpec (held : Option Files) (kernel_name spec_name : List ℕ) (fault : SpecFault) : Type 0 where
+  pub kernel_text : List ℕ
+  pub spec_text : List ℕ
+  pub kernel : Kernel
+  pub loaded : AreLoaded held kernel_name spec_name kernel_text spec_text
+  pub the_kernel : IsTheKernel kernel_text kernel
+  pub refused : IsRefusedSpec kernel spec_text fault
+
+-- A handler of this name is the first one that is too wide to run all its cases.
+pub record RefusesWidth (held : Option Files) (kernel_name spec_name : List ℕ) (h : ℕ) (name : List ℕ) : Type 0 where
+  pub kernel : Kernel
+  pub spec : Spec
+  pub transition : Transition
+  pub read : AreRead held kernel_name spec_name kernel spec
+  pub first : IsFirstWide kernel spec.transitions h transition
+  pub named : name ≡ transition.name
+
+-- Why a verification for these words ended before its first line, with the name of the handler where it is too wide.
+-- Want of memory is the one free answer.
+abbrev pub HasCause : ShelfView → List ℕ → List ℕ → List ℕ → TopFault → Type 0
+HasCause shelf kernel spec name Usage = ⊥
+HasCause shelf kernel spec name (Read w) = IsFirstLoadFault shelf kernel (Read w) ⊎ IsSecondLoadFault shelf kernel spec (Read w)
+HasCause shelf kernel spec name (Long w) = IsFirstLoadFault shelf kernel (Long w) ⊎ IsSecondLoadFault shelf kernel spec (Long w)
+HasCause shelf kernel spec name (OfKernel f) = RefusesKernel shelf.held kernel spec f
+HasCause shelf kernel spec name (OfSpec f) = RefusesSpec shelf.held kernel spec f
+HasCause shelf kernel spec name (Wide h) = RefusesWidth shelf.held kernel spec h name
+HasCause shelf kernel spec name Memory = ⊤
+HasCause shelf kernel spec name Write = ⊥
+
+-- The numbers of the specification's fields and handlers fit their types.
+pub record IsSmall (spec : Spec) : Type 0 where
+  pub fields : length spec.fields < 2 ^ 32
+  pub transitions : length spec.transitions < 2 ^ 32
+
+-- What reading both texts gives: the kernel and the specification that they spell, or the refusal of the first that is none.
+pub record Reads (kernel_text spec_text : List ℕ) (inputs : Inputs) : Type 0 where
+  pub the_kernel : IsTheKernel kernel_text inputs.kernel
+  pub the_spec : IsTheSpec inputs.kernel spec_text inputs.spec
+  pub small : IsSmall inputs.spec
+
+pub record RefusesSpecText (kernel_text spec_text : List ℕ) (fault : SpecFault) : Type 0 where
+  pub kernel : Kernel
+  pub the_kernel : IsTheKernel kernel_text kernel
+  pub refused : IsRefusedSpec kernel spec_text fault
+
+abbrev pub ReadsTo : List ℕ → List ℕ → Result Inputs TopFault → Type 0
+ReadsTo kernel_text spec_text (Ok inputs) = Reads kernel_text spec_text inputs
+ReadsTo kernel_text spec_text (Err (OfKernel f)) = IsRefusedKernel kernel_text f
+ReadsTo kernel_text spec_text (Err (OfSpec f)) = RefusesSpecText kernel_text spec_text f
+ReadsTo kernel_text spec_text (Err Memory) = ⊤
+ReadsTo kernel_text spec_text (Err Usage) = ⊥
+ReadsTo kernel_text spec_text (Err (Read w)) = ⊥
+ReadsTo kernel_text spec_text (Err (Long w)) = ⊥
+ReadsTo kernel_text spec_text (Err (Wide h)) = ⊥
+ReadsTo kernel_text spec_text (Err Write) = ⊥

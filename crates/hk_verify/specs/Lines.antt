@@ -1,0 +1,64 @@
+-- The lines that the top call puts for faults, and the statuses.
+
+use Rattle.std.specs.Prelude.{ℕ, List, [], ◌∷◌, codes, slice_index_or, if◌then◌else◌, Bool, true, false}
+use Rattle.std.specs.List.{list_any}
+use Rattle.std.specs.Fmt.{decimal}
+use Rattle.ir_ast.specs.declared.fault.KernelReason.{KernelReason}
+use Rattle.ir_ast.specs.declared.fault.KernelReason.TheVariants.{K1, K2, K3, K4}
+use Rattle.spec_text.specs.declared.fault.SpecReason.{SpecReason}
+use Rattle.spec_text.specs.declared.fault.SpecReason.TheVariants.{S3}
+use Rattle.hk_report.specs.Texts.{line}
+use Rattle.hk_report.specs.declared.verdict.Verdict.{Verdict}
+use Rattle.hk_report.specs.declared.verdict.Verdict.TheVariants.{Accepted, Rejected, Memory as NoMemory}
+use Rattle.hk_verify.specs.declared.answer.TopFault.{TopFault}
+use Rattle.hk_verify.specs.declared.answer.TopFault.TheVariants.{Usage, Read, Long, Kernel, Spec, Wide, Memory, Write}
+
+-- A reason as it is printed.
+abbrev pub kernel_code : KernelReason → List ℕ
+kernel_code K1 = codes "K1"
+kernel_code K2 = codes "K2"
+kernel_code K3 = codes "K3"
+kernel_code K4 = codes "K4"
+
+abbrev pub spec_code : SpecReason → List ℕ
+spec_code S3 = codes "S3"
+
+-- A line that names a line of a text and a reason.
+abbrev pub coded_line : List ℕ → ℕ → List ℕ → List ℕ
+coded_line text number code = line (text ∷ decimal number ∷ codes ": " ∷ code ∷ [])
+
+-- The line of a fault; `name` is that of the handler where it is too wide. After a failed put there is none.
+abbrev pub fault_text : List (List ℕ) → List ℕ → TopFault → List ℕ
+fault_text words name Usage = line (codes "usage: hkv verify, check, replay, lrat, run or bench" ∷ [])
+fault_text words name (Read w) = line (codes "read fault " ∷ slice_index_or words w [] ∷ [])
+fault_text words name (Long w) = line (codes "long " ∷ slice_index_or words w [] ∷ [])
+fault_text words name (Kernel f) = coded_line (codes "kernel ") f.line (kernel_code f.reason)
+fault_text words name (Spec f) = coded_line (codes "spec ") f.line (spec_code f.reason)
+fault_text words name (Wide h) = line (codes "wide " ∷ name ∷ [])
+fault_text words name Memory = line (codes "memory" ∷ [])
+fault_text words name Write = []
+
+-- The status of a fault.
+abbrev pub fault_status : TopFault → ℕ
+fault_status Usage = 4
+fault_status (Read w) = 5
+fault_status (Long w) = 3
+fault_status (Kernel f) = 3
+fault_status (Spec f) = 3
+fault_status (Wide h) = 3
+fault_status Memory = 7
+fault_status Write = 6
+
+abbrev pub is_rejection : Verdict → Bool
+is_rejection Accepted = false
+is_rejection (Rejected o c) = true
+is_rejection NoMemory = false
+
+abbrev pub is_memory : Verdict → Bool
+is_memory Accepted = false
+is_memory (Rejected o c) = false
+is_memory NoMemory = true
+
+-- The status of a verification without a fault.
+abbrev pub verdict_status : List Verdict → ℕ
+verdict_status verdicts = if list_any is_rejection verdicts then 1 else if list_any is_memory verdicts then 7 else 0

@@ -1,0 +1,116 @@
+//! The inputs of a verification: two files, loaded in the order of their words and then read.
+
+ghost use Rattle.std.specs.Prelude.{◌≡◌, ◌≤◌, ◌<◌, ◌^◌, [], IfOk, IfErr, length};
+ghost use Rattle.hk_verify.specs.Inputs.{ShelfView, AreLoaded, AreRead, HasCause, IsLoaded, IsLoadFault, IsSmall, ReadsTo};
+
+use crate::answer::TopFault;
+use hk_io::{LoadFault, Shelf};
+use ir_ast::KernelStop;
+use ir_thin::read_kernel;
+use ir_thin::tree::Kernel;
+use spec_text::{SpecStop, read_spec};
+use spec_thin::tree::Spec;
+use std::alloc::Global;
+
+/// The most bytes of a kernel text: 16 MiB.
+const KERNEL_LIMIT: u32 = 16_777_216;
+
+/// The most bytes of a specification text: 1 MiB.
+const SPEC_LIMIT: u32 = 1_048_576;
+
+/// The word that names the kernel's file, counted from 0.
+const KERNEL_WORD: u32 = 1;
+
+/// The word that names the specification's file.
+const SPEC_WORD: u32 = 2;
+
+/// The bytes of both files.
+#[derive(Drop)]
+struct Texts {
+    kernel: Vec<u8>,
+    spec: Vec<u8>,
+}
+
+/// A kernel and a specification that fits it.
+#[derive(Drop)]
+pub struct Inputs {
+    pub kernel: Kernel,
+    pub spec: Spec,
+}
+
+/// Loads the file of a word.
+fn load<F: Shelf>(
+    alloc: Global,
+    shelf: &mut F,
+    word: u32,
+    name: &str,
+    limit: u32,
+) -> Result<Vec<u8>, TopFault>
+    ensures loaded { IfOk result (λ text. IsLoaded (F.held shelf.old) name.now limit text.items) }
+    ensures fault { IfErr result (IsLoadFault (F.held shelf.old) (F.faults shelf.old) (F.faults shelf.new) word name.now limit) }
+    ensures held { F.held shelf.new ≡ F.held shelf.old }
+    ensures later { F.faults shelf.old ≤ F.faults shelf.new }
+{
+    match shelf.load(alloc, name, limit) {
+        Ok(text) => Ok(text),
+        Err(LoadFault::Failed) => Err(TopFault::Read { word }),
+        Err(LoadFault::TooLong) => Err(TopFault::Long { word }),
+        Err(LoadFault::Memory) => Err(TopFault::Memory),
+    }
+}
+
+/// Loads both files, the kernel's first.
+fn load_both<F: Shelf>(
+    alloc: Global,
+    shelf: &mut F,
+    kernel: &str,
+    spec: &str,
+) -> Result<Texts, TopFault>
+    ensures loaded { IfOk result (λ texts. AreLoaded (F.held shelf.old) kernel.now spec.now texts.kernel.items texts.spec.items) }
+    ensures fault { IfErr result (λ fault.
+        let view : ShelfView = record { held = F.held shelf.old; before = F.faults shelf.old; after = F.faults shelf.new } in
+        HasCause view kernel.now spec.now [] fault) }
+    ensures held { F.held shelf.new ≡ F.held shelf.old }
+    ensures later { F.faults shelf.old ≤ F.faults shelf.new }
+{
+    let kernel = load(alloc, shelf, KERNEL_WORD, kernel, KERNEL_LIMIT)?;
+    let spec = load(alloc, shelf, SPEC_WORD, spec, SPEC_LIMIT)?;
+    Ok(Texts { kernel, spec })
+}
+
+/// Reads both texts, the kernel's first.
+fn read_both(alloc: Global, kernel: &[u8], spec: &[u8]) -> Result<Inputs, TopFault>
+    requires kernel { length kernel.now < 2 ^ 31 }
+    requires spec { length spec.now < 2 ^ 31 }
+    ensures { ReadsTo kernel.now spec.now result }
+{
+    let kernel = match read_kernel(alloc, kernel) {
+        Ok(kernel) => kernel,
+        Err(KernelStop::Refused(fault)) => return Err(TopFault::Kernel(fault)),
+        Err(KernelStop::Memory) => return Err(TopFault::Memory),
+    };
+    match read_spec(alloc, spec, &kernel) {
+        Ok(spec) => Ok(Inputs { kernel, spec }),
+        Err(SpecStop::Refused(fault)) => Err(TopFault::Spec(fault)),
+        Err(SpecStop::Memory) => Err(TopFault::Memory),
+    }
+}
+
+/// Loads and reads both inputs.
+pub fn read_inputs<F: Shelf>(
+    alloc: Global,
+    shelf: &mut F,
+    kernel: &str,
+    spec: &str,
+) -> Result<Inputs, TopFault>
+    ensures read { IfOk result (λ inputs. AreRead (F.held shelf.old) kernel.now spec.now inputs.kernel inputs.spec) }
+    ensures small { IfOk result (λ inputs. IsSmall inputs.spec) }
+    ensures fault { IfErr result (λ fault.
+        let view : ShelfView = record { held = F.held shelf.old; before = F.faults shelf.old; after = F.faults shelf.new } in
+        HasCause view kernel.now spec.now [] fault) }
+    ensures held { F.held shelf.new ≡ F.held shelf.old }
+    ensures later { F.faults shelf.old ≤ F.faults shelf.new }
+{
+    let texts = load_both(alloc, shelf, kernel, spec)?;
+    read_both(alloc, &texts.kernel, &texts.spec)
+}

@@ -1,0 +1,17 @@
+//! The top call: from command words and the outside to an answer, a report and a status.
+//!
+//! In come the words, a shelf of files and a sink, out goes an [`answer::Answer`]. `specs/Answers.antt` says what it
+//! means, and the clauses of [`run_words`] say it of each call.
+#![tactic(auto)]
+
+pub mod answer;
+mod inputs;
+mod refusal;
+#[cfg(test)]
+mod tests;
+mod top;
+mod verdicts;
+mod verify;
+
+pub use refusal::status;
+pub use top::run_words;

@@ -1,0 +1,159 @@
+//! Calls that end before the line of the opening: their line and their answer.
+
+ghost use Rattle.std.specs.Prelude.{◌≡◌, ◌≤◌, ◌∷◌, [], OnOk, OnErr, Some, slice_index_or};
+ghost use Rattle.hk_io.specs.Faults.{Rose};
+ghost use Rattle.hk_io.specs.Shown.{shown_with, ShowsPrefix};
+ghost use Rattle.hk_verify.specs.Words.{bytes_of};
+ghost use Rattle.hk_report.specs.Texts.{line};
+ghost use Rattle.hk_verify.specs.Lines.{fault_text, coded_line, fault_status, kernel_code, spec_code};
+ghost use Rattle.hk_verify.specs.Answers.{SinkView, IsRefused};
+
+use crate::answer::{Answer, TopFault};
+use hk_io::{Sink, SinkFault};
+use hk_report::{InitVerdict, Part, put_line};
+use hk_seq::Seq;
+use ir_ast::KernelReason;
+use spec_text::SpecReason;
+use std::alloc::Global;
+
+/// The status of a fault. It takes no memory.
+pub fn status(answer: &TopFault) -> u8
+    ensures { result ≡ fault_status answer.now }
+{
+    match answer {
+        TopFault::Usage => 4,
+        TopFault::Read { .. } => 5,
+        TopFault::Long { .. } => 3,
+        TopFault::Kernel(_) => 3,
+        TopFault::Spec(_) => 3,
+        TopFault::Wide { .. } => 3,
+        TopFault::Memory => 7,
+        TopFault::Write => 6,
+    }
+}
+
+/// A reason of the kernel's reader as it is printed.
+fn kernel_reason(reason: KernelReason) -> &'static [u8]
+    ensures { result.now ≡ kernel_code reason }
+{
+    match reason {
+        KernelReason::K1 => b"K1",
+        KernelReason::K2 => b"K2",
+        KernelReason::K3 => b"K3",
+        KernelReason::K4 => b"K4",
+    }
+}
+
+/// A reason of the specification's reader as it is printed.
+fn spec_reason(reason: SpecReason) -> &'static [u8]
+    ensures { result.now ≡ spec_code reason }
+{
+    match reason {
+        SpecReason::S3 => b"S3",
+    }
+}
+
+/// The bytes of a word; none where there is no such word.
+fn word_at(words: &[String], place: u32) -> &[u8]
+    ensures { result.now ≡ slice_index_or (bytes_of words.now) place [] }
+{
+    match words.get(place as usize) {
+        Some(word) => word.as_bytes(),
+        None => &[],
+    }
+}
+
+/// Puts a line of one text.
+fn put_text<O: Sink>(out: &mut O, text: &[u8]) -> Result<(), SinkFault>
+    ensures whole { OnOk result (O.shown out.new ≡ shown_with (O.shown out.old) (line (text.now ∷ []))) }
+    ensures cut { OnErr result (ShowsPrefix (O.shown out.old) (O.shown out.new) (line (text.now ∷ []))) }
+    ensures failed { OnErr result (Rose (O.faults out.old) (O.faults out.new)) }
+    ensures later { O.faults out.old ≤ O.faults out.new }
+{
+    put_line(out, &[Part::Text(text)])
+}
+
+/// Puts a line of a text with a name behind it.
+fn put_named<'x, O: Sink>(out: &mut O, text: &'x [u8], name: &'x [u8]) -> Result<(), SinkFault>
+    ensures whole { OnOk result (O.shown out.new ≡ shown_with (O.shown out.old) (line (text.now ∷ name.now ∷ []))) }
+    ensures cut { OnErr result (ShowsPrefix (O.shown out.old) (O.shown out.new) (line (text.now ∷ name.now ∷ []))) }
+    ensures failed { OnErr result (Rose (O.faults out.old) (O.faults out.new)) }
+    ensures later { O.faults out.old ≤ O.faults out.new }
+{
+    put_line(out, &[Part::Text(text), Part::Text(name)])
+}
+
+/// Puts a line of a text, a number and the code of a reason.
+fn put_coded<'x, O: Sink>(
+    out: &mut O,
+    text: &'x [u8],
+    number: u32,
+    code: &'x [u8],
+) -> Result<(), SinkFault>
+    ensures whole { OnOk result (O.shown out.new ≡ shown_with (O.shown out.old) (coded_line text.now number code.now)) }
+    ensures cut { OnErr result (ShowsPrefix (O.shown out.old) (O.shown out.new) (coded_line text.now number code.now)) }
+    ensures failed { OnErr result (Rose (O.faults out.old) (O.faults out.new)) }
+    ensures later { O.faults out.old ≤ O.faults out.new }
+{
+    put_line(
+        out,
+        &[
+            Part::Text(text),
+            Part::Decimal(number as u64),
+            Part::Text(b": "),
+            Part::Text(code),
+        ],
+    )
+}
+
+/// Puts the line of a fault; `name` is that of the handler where it is too wide. After a failed put there is none.
+fn put_fault<O: Sink>(
+    out: &mut O,
+    words: &[String],
+    name: &[u8],
+    fault: TopFault,
+) -> Result<(), SinkFault>
+    ensures whole { OnOk result (O.shown out.new ≡ shown_with (O.shown out.old) (fault_text (bytes_of words.now) name.now fault)) }
+    ensures cut { OnErr result (ShowsPrefix (O.shown out.old) (O.shown out.new) (fault_text (bytes_of words.now) name.now fault)) }
+    ensures failed { OnErr result (Rose (O.faults out.old) (O.faults out.new)) }
+    ensures later { O.faults out.old ≤ O.faults out.new }
+{
+    match fault {
+        TopFault::Usage => put_text(out, b"usage: hkv verify, check, replay, lrat, run or bench"),
+        TopFault::Read { word } => put_named(out, b"read fault ", word_at(words, word)),
+        TopFault::Long { word } => put_named(out, b"long ", word_at(words, word)),
+        TopFault::Kernel(fault) => put_coded(
+            out,
+            b"kernel ",
+            fault.line,
+            kernel_reason(fault.reason),
+        ),
+        TopFault::Spec(fault) => put_coded(out, b"spec ", fault.line, spec_reason(fault.reason)),
+        TopFault::Wide { .. } => put_named(out, b"wide ", name),
+        TopFault::Memory => put_text(out, b"memory"),
+        TopFault::Write => Ok(()),
+    }
+}
+
+/// Ends a call with a fault: its line is put, and a fault of that put changes nothing in the answer.
+pub fn refuse<O: Sink>(
+    alloc: Global,
+    out: &mut O,
+    words: &[String],
+    name: &[u8],
+    fault: TopFault,
+) -> Answer
+    ensures fault { result.fault ≡ Some fault }
+    ensures refused { let sink : SinkView = record { shown = O.shown out.old; shown' = O.shown out.new; faults = O.faults out.old; faults' = O.faults out.new } in
+        IsRefused sink (bytes_of words.now) name.now fault result }
+    ensures later { O.faults out.old ≤ O.faults out.new }
+{
+    let status = status(&fault);
+    let _ = put_fault(out, words, name, fault);
+    Answer {
+        status,
+        init: InitVerdict::NotRun,
+        verdicts: Seq::new(alloc),
+        fault: Some(fault),
+    }
+}
