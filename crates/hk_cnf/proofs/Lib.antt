@@ -1,5 +1,13 @@
+pub mod CircuitLaws
+pub mod CircuitMade
+pub mod CircuitValues
+pub mod Determination
+pub mod Keys
+pub mod KeptGates
 pub mod Members
+pub mod Outcomes
 pub mod Parts
+pub mod Running
 pub mod Splits
 pub mod Tells
 pub mod Written

@@ -1,6 +1,11 @@
+pub mod Circuit
+pub mod CircuitGrowth
+pub mod CircuitParts
 pub mod Clauses
+pub mod Determined
 pub mod Dimacs
 pub mod DimacsText
+pub mod GatesView
 pub mod Hint
 pub mod Layout
 pub mod Literal
