@@ -2,7 +2,7 @@
 
 ghost use Rattle.std.specs.Prelude.{◌≡◌, ◌<◌, ◌≤◌, ◌+◌, ◌^◌, ◌∷◌, length, map, nat_abs, ℕ, List, false, Some, Ok, Err, IfOk, IfErr};
 ghost use Rattle.std.specs.List.{list_any};
-ghost use Rattle.hk_cnf.specs.Literal.{is_negation};
+ghost use Rattle.hk_cnf.specs.Literal.{has, is_negation};
 ghost use Rattle.hk_cnf.specs.Text.{lines_of, words_of};
 ghost use Rattle.hk_cnf.specs.Dimacs.{is_nil};
 ghost use Rattle.hk_lrat.specs.Log.{has_both};
@@ -17,6 +17,12 @@ use std::collections::HashSet;
 
 /// The greatest id, and the greatest size of a hint or a literal.
 const MOST: u64 = i64::MAX as u64;
+
+/// The most literals that a clause has for it to be looked through without a table.
+const FEW: usize = 16;
+
+/// The hints of a row for which room is made before they are read.
+const MANY_HINTS: usize = 32;
 
 /// Why a line was not read.
 enum RowStop {
@@ -113,8 +119,27 @@ fn ids<'t>(line: &'t [u8], ids: &mut IdList) -> Result<&'t [u8], RowStop>
     Err(RowStop::Reason(RowReason::L1))
 }
 
-/// Whether the clause has a literal together with its negation.
-fn has_both(alloc: Global, clause: &[Lit]) -> Result<bool, AllocError>
+/// Whether the literal is one of these.
+fn is_among(lits: &[Lit], lit: Lit) -> bool
+    ensures { result ≡ has lits.now lit }
+{
+    lits.iter().any(|other| lit == *other)
+}
+
+/// Whether the clause has a literal together with its negation, by looking through it for each of its literals.
+fn has_both_among(clause: &[Lit]) -> bool
+    ensures { result ≡ has_both clause.now }
+{
+    for i in 0..clause.len() {
+        if is_among(&clause[i + 1..], clause[i].negated()) {
+            return true;
+        }
+    }
+    false
+}
+
+/// Whether the clause has a literal together with its negation, by a table of its literals.
+fn has_both_by_table(alloc: Global, clause: &[Lit]) -> Result<bool, AllocError>
     ensures { IfOk result (λ both. both ≡ has_both clause.now) }
 {
     let mut seen: HashSet<i64> = HashSet::new(alloc);
@@ -125,6 +150,16 @@ fn has_both(alloc: Global, clause: &[Lit]) -> Result<bool, AllocError>
         seen.insert(lit.number())?;
     }
     Ok(false)
+}
+
+/// Whether the clause has a literal together with its negation.
+fn has_both(alloc: Global, clause: &[Lit]) -> Result<bool, AllocError>
+    ensures { IfOk result (λ both. both ≡ has_both clause.now) }
+{
+    if clause.len() <= FEW {
+        return Ok(has_both_among(clause));
+    }
+    has_both_by_table(alloc, clause)
 }
 
 /// Reads hints up to the token `0`, and gives what follows it.
@@ -186,7 +221,7 @@ fn addition_hints(alloc: Global, id: u64, clause: LitList, line: &[u8]) -> Resul
     ensures ok { IfOk result (λ row. hints_of id clause (part hint_in (words_of false line.now)) ≡ Ok row) }
     ensures err { IfErr result (λ stop. StopsWith stop (hints_of id clause (part hint_in (words_of false line.now)))) }
 {
-    let mut list = Vec::new(alloc);
+    let mut list = Vec::with_capacity(alloc, MANY_HINTS)?;
     let rest = hints(line, &mut list)?;
     if !is_done(rest) {
         return Err(RowStop::Reason(RowReason::L1));

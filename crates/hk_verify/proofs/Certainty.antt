@@ -17,7 +17,7 @@ use Rattle.hk_report.specs.declared.verdict.Verdict.TheVariants.{Accepted, Rejec
 use Rattle.hk_decide.specs.Right.{IsRight}
 use Rattle.hk_verify.specs.declared.answer.Answer.{Answer}
 use Rattle.hk_verify.specs.declared.answer.TopFault.{TopFault}
-use Rattle.hk_verify.specs.declared.answer.TopFault.TheVariants.{Usage, Read, Long, Kernel as OfKernel, Spec as OfSpec, Wide, Memory, Write}
+use Rattle.hk_verify.specs.declared.answer.TopFault.TheVariants.{Usage, Read, Long, Kernel as OfKernel, Spec as OfSpec, Cnf as OfCnf, Wide, Memory, Write}
 use Rattle.hk_verify.specs.Words.{IsVerify, HasNoForm}
 use Rattle.hk_verify.specs.Inputs.{ShelfView, IsLoaded, AreRead, kernel_limit, spec_limit}
 use Rattle.hk_verify.specs.Verdicts.{AreRight, AreCut}
@@ -25,7 +25,7 @@ use Rattle.hk_verify.specs.Answers.{SinkView, IsCut, IsInitCut, IsReported, IsEn
 use Rattle.hk_verify.specs.Headline.{IsHandler, AcceptsCorrect, RejectsRefuted, Refutes}
 
 -- What is there is one thing.
-some_is : {A : Type 0} {x y : A} → Some x ≡ Some y → x ≡ y
+pub some_is : {A : Type 0} {x y : A} → Some x ≡ Some y → x ≡ y
 some_is {x = x} same = ap (λ o. unwrap_or o x) same
 
 -- The relation holds at each place that both lists have, also where the first goes on.
@@ -70,15 +70,16 @@ of_report sink kernel spec answer (Some (Read w)) h t v reports there here = abs
 of_report sink kernel spec answer (Some (Long w)) h t v reports there here = absurd reports
 of_report sink kernel spec answer (Some (OfKernel f)) h t v reports there here = absurd reports
 of_report sink kernel spec answer (Some (OfSpec f)) h t v reports there here = absurd reports
+of_report sink kernel spec answer (Some (OfCnf f)) h t v reports there here = absurd reports
 of_report sink kernel spec answer (Some (Wide w)) h t v reports there here = absurd reports
 of_report sink kernel spec answer (Some Memory) h t v reports there here = absurd reports
 
 -- The text that was loaded is the one that is held.
-same_text : (held : Option Files) (name : List ℕ) (limit : ℕ) (text loaded : List ℕ) → IsLoaded held name limit loaded → held_under held name ≡ Some text → loaded ≡ text
+pub same_text : (held : Option Files) (name : List ℕ) (limit : ℕ) (text loaded : List ℕ) → IsLoaded held name limit loaded → held_under held name ≡ Some text → loaded ≡ text
 same_text None name limit text loaded load there = cc
 same_text (Some files) name limit text loaded load there = some_is (sym (load.told refl) ∙ there)
 
--- Words name one kernel and one specification.
+-- Three words name two files.
 second : List (List ℕ) → List ℕ
 second (a ∷ b ∷ words) = b
 second (a ∷ []) = []
@@ -90,24 +91,24 @@ third (a ∷ b ∷ []) = []
 third (a ∷ []) = []
 third [] = []
 
-same_kernel_name : (words : List (List ℕ)) (k s k' s' : List ℕ) → IsVerify words k s → IsVerify words k' s' → k ≡ k'
+pub same_second : (words : List (List ℕ)) (a b c d e f : List ℕ) → words ≡ a ∷ b ∷ c ∷ [] → words ≡ d ∷ e ∷ f ∷ [] → b ≡ e
 unfolding second
-same_kernel_name words k s k' s' form form' = ap second (sym form ∙ form')
+same_second words a b c d e f one other = ap second (sym one ∙ other)
 
-same_spec_name : (words : List (List ℕ)) (k s k' s' : List ℕ) → IsVerify words k s → IsVerify words k' s' → s ≡ s'
+pub same_third : (words : List (List ℕ)) (a b c d e f : List ℕ) → words ≡ a ∷ b ∷ c ∷ [] → words ≡ d ∷ e ∷ f ∷ [] → c ≡ f
 unfolding third
-same_spec_name words k s k' s' form form' = ap third (sym form ∙ form')
+same_third words a b c d e f one other = ap third (sym one ∙ other)
 
 -- The kernel and the specification that were read are those that the held texts spell.
 of_read : (held : Option Files) (words : List (List ℕ)) (kernel_name spec_name : List ℕ) (kernel other : Kernel) (spec other_spec : Spec) (h : ℕ) (t : Transition) (v : Verdict)
     → IsVerify words kernel_name spec_name → AreRead held kernel_name spec_name other other_spec → IsHandler held words kernel spec h t
     → (slice_get other_spec.transitions h ≡ Some t → IsRight other other_spec t v) → IsRight kernel spec t v
 of_read held words kernel_name spec_name kernel other spec other_spec h t v form read handler right =
-    let same_k : handler.kernel_name ≡ kernel_name = same_kernel_name words _ _ _ _ handler.form form in
-    let same_s : handler.spec_name ≡ spec_name = same_spec_name words _ _ _ _ handler.form form in
-    let kernel_text : read.kernel_text ≡ handler.kernel_text = same_text held kernel_name kernel_limit handler.kernel_text read.kernel_text read.loaded.kernel_loaded
+    let same_k : handler.kernel_name ≡ kernel_name = same_second words _ _ _ _ _ _ handler.form form in
+    let same_s : handler.spec_name ≡ spec_name = same_third words _ _ _ _ _ _ handler.form form in
+    let kernel_text : read.kernel_text ≡ handler.kernel_text = same_text held kernel_name kernel_limit handler.kernel_text read.kernel_text read.loaded.first_loaded
     (subst (λ n. held_under held n ≡ Some handler.kernel_text) same_k handler.kernel_held) in
-    let spec_text : read.spec_text ≡ handler.spec_text = same_text held spec_name spec_limit handler.spec_text read.spec_text read.loaded.spec_loaded
+    let spec_text : read.spec_text ≡ handler.spec_text = same_text held spec_name spec_limit handler.spec_text read.spec_text read.loaded.second_loaded
     (subst (λ n. held_under held n ≡ Some handler.spec_text) same_s handler.spec_held) in
     let is_kernel : kernel ≡ other = read.the_kernel.only kernel (subst (λ text. IsKernelText text kernel) (sym kernel_text) handler.kernel_spelled) in
     let is_spec : spec ≡ other_spec = read.the_spec.only spec (subst (λ k. IsSpecText k read.spec_text spec) is_kernel
@@ -138,14 +139,14 @@ rejects shelf sink words kernel_name spec_name answer form means kernel spec h t
 
 -- Words without a form have no handler.
 pub accepts_none : (held : Option Files) (words : List (List ℕ)) (answer : Answer) → HasNoForm words → AcceptsCorrect held words answer
-accepts_none held words answer none kernel spec h t handler here = absurd (none handler.kernel_name handler.spec_name handler.form)
+accepts_none held words answer none kernel spec h t handler here = absurd (none.no_verify handler.kernel_name handler.spec_name handler.form)
 
 pub rejects_none : (held : Option Files) (words : List (List ℕ)) (answer : Answer) → HasNoForm words → RejectsRefuted held words answer
-rejects_none held words answer none kernel spec h t o c handler here = absurd (none handler.kernel_name handler.spec_name handler.form)
+rejects_none held words answer none kernel spec h t o c handler here = absurd (none.no_verify handler.kernel_name handler.spec_name handler.form)
 
 -- What an answer means for the names of the words it means for any names that the words give.
 pub means_for : (shelf : ShelfView) (sink : SinkView) (words : List (List ℕ)) (k s k' s' : List ℕ) (answer : Answer)
     → IsVerify words k s → IsVerify words k' s' → Means shelf sink words k s answer → Means shelf sink words k' s' answer
 means_for shelf sink words k s k' s' answer form form' means =
-    subst (λ name. Means shelf sink words k' name answer) (same_spec_name words k s k' s' form form')
-    (subst (λ name. Means shelf sink words name s answer) (same_kernel_name words k s k' s' form form') means)
+    subst (λ name. Means shelf sink words k' name answer) (same_third words _ _ _ _ _ _ form form')
+    (subst (λ name. Means shelf sink words name s answer) (same_second words _ _ _ _ _ _ form form') means)

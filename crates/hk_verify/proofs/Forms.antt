@@ -20,3 +20,14 @@ three_words words a b c command kernel spec long short first second third is_com
     ap (map string_bytes) (three words a b c long short first second third)
     ∙ ap (λ v. v ∷ string_bytes b ∷ string_bytes c ∷ []) is_command ∙ ap (λ v. command ∷ v ∷ string_bytes c ∷ []) (sym is_kernel)
     ∙ ap (λ v. command ∷ kernel ∷ v ∷ []) (sym is_spec)
+
+-- Another first word is another command.
+first_or : List (List ℕ) → List ℕ
+first_or [] = []
+first_or (x ∷ xs) = x
+
+pub other_command : (words : List (String Global)) (word : String Global) (a b c : List ℕ) → 3 ≤ length words → word ≡ slice_index_or words 0 word
+    → map string_bytes words ≡ a ∷ b ∷ c ∷ [] → string_bytes word ≡ a
+unfolding first_or
+other_command [] word a b c some there same = absurd (omega (arith, some))
+other_command (x ∷ xs) word a b c some there same = ap string_bytes there ∙ ap first_or same

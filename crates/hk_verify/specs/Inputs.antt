@@ -14,7 +14,7 @@ use Rattle.spec_text.specs.Refusing.{IsRefused as IsRefusedSpec}
 use Rattle.hk_replay.specs.Violation.{case_bits}
 use Rattle.hk_verify.specs.declared.inputs.Inputs.{Inputs}
 use Rattle.hk_verify.specs.declared.answer.TopFault.{TopFault}
-use Rattle.hk_verify.specs.declared.answer.TopFault.TheVariants.{Usage, Read, Long, Kernel as OfKernel, Spec as OfSpec, Wide, Memory, Write}
+use Rattle.hk_verify.specs.declared.answer.TopFault.TheVariants.{Usage, Read, Long, Kernel as OfKernel, Spec as OfSpec, Cnf as OfCnf, Wide, Memory, Write}
 
 -- The most bytes of a kernel text: 16 MiB.
 abbrev pub kernel_limit : ℕ
@@ -23,6 +23,10 @@ kernel_limit = 16777216
 -- The most bytes of a specification text: 1 MiB.
 abbrev pub spec_limit : ℕ
 spec_limit = 1048576
+
+-- The most bytes of a clause file, and of a proof: 256 MiB.
+abbrev pub proof_limit : ℕ
+proof_limit = 268435456
 
 -- What a call sees of the shelf: the files, where it tells of them, and its count of faults before and after.
 pub record ShelfView : Type 0 where
@@ -43,24 +47,26 @@ IsLoadFault held before after word name limit Memory = ⊤
 IsLoadFault held before after word name limit Usage = ⊥
 IsLoadFault held before after word name limit (OfKernel f) = ⊥
 IsLoadFault held before after word name limit (OfSpec f) = ⊥
+IsLoadFault held before after word name limit (OfCnf f) = ⊥
 IsLoadFault held before after word name limit (Wide h) = ⊥
 IsLoadFault held before after word name limit Write = ⊥
 
--- Why one of the two loads has no answer: the first one, or the second one behind it.
-pub record IsSecondLoadFault (shelf : ShelfView) (kernel spec : List ℕ) (fault : TopFault) : Type 0 where
-  pub kernel_text : List ℕ
-  pub loaded : IsLoaded shelf.held kernel kernel_limit kernel_text
+-- Both texts were loaded, under the words 1 and 2.
+pub record AreLoaded (held : Option Files) (first : List ℕ) (first_limit : ℕ) (second : List ℕ) (second_limit : ℕ) (first_text second_text : List ℕ) : Type 0 where
+  pub first_loaded : IsLoaded held first first_limit first_text
+  pub second_loaded : IsLoaded held second second_limit second_text
+
+-- Why one of two loads has no answer: the first one, or the second one behind it.
+pub record IsSecondLoadFault (shelf : ShelfView) (first : List ℕ) (first_limit : ℕ) (second : List ℕ) (second_limit : ℕ) (fault : TopFault) : Type 0 where
+  pub first_text : List ℕ
+  pub loaded : IsLoaded shelf.held first first_limit first_text
   pub between : ℕ
   pub later : shelf.before ≤ between
-  pub cause : IsLoadFault shelf.held between shelf.after 2 spec spec_limit fault
+  pub cause : IsLoadFault shelf.held between shelf.after 2 second second_limit fault
 
-abbrev pub IsFirstLoadFault : ShelfView → List ℕ → TopFault → Type 0
-IsFirstLoadFault shelf kernel fault = IsLoadFault shelf.held shelf.before shelf.after 1 kernel kernel_limit fault
-
--- Both texts were loaded.
-pub record AreLoaded (held : Option Files) (kernel spec kernel_text spec_text : List ℕ) : Type 0 where
-  pub kernel_loaded : IsLoaded held kernel kernel_limit kernel_text
-  pub spec_loaded : IsLoaded held spec spec_limit spec_text
+abbrev pub IsLoadingFault : ShelfView → List ℕ → ℕ → List ℕ → ℕ → TopFault → Type 0
+IsLoadingFault shelf first first_limit second second_limit fault =
+    IsLoadFault shelf.held shelf.before shelf.after 1 first first_limit fault ⊎ IsSecondLoadFault shelf first first_limit second second_limit fault
 
 -- The kernel that a text spells: this one, and no other.
 pub record IsTheKernel (text : List ℕ) (kernel : Kernel) : Type 0 where
@@ -76,7 +82,7 @@ pub record IsTheSpec (kernel : Kernel) (text : List ℕ) (spec : Spec) : Type 0 
 pub record AreRead (held : Option Files) (kernel_name spec_name : List ℕ) (kernel : Kernel) (spec : Spec) : Type 0 where
   pub kernel_text : List ℕ
   pub spec_text : List ℕ
-  pub loaded : AreLoaded held kernel_name spec_name kernel_text spec_text
+  pub loaded : AreLoaded held kernel_name kernel_limit spec_name spec_limit kernel_text spec_text
   pub the_kernel : IsTheKernel kernel_text kernel
   pub the_spec : IsTheSpec kernel spec_text spec
 
@@ -94,7 +100,7 @@ AreNarrow kernel transitions = All (λ t. case_bits kernel t ≤ 16) transitions
 pub record RefusesKernel (held : Option Files) (kernel_name spec_name : List ℕ) (fault : KernelFault) : Type 0 where
   pub kernel_text : List ℕ
   pub spec_text : List ℕ
-  pub loaded : AreLoaded held kernel_name spec_name kernel_text spec_text
+  pub loaded : AreLoaded held kernel_name kernel_limit spec_name spec_limit kernel_text spec_text
   pub refused : IsRefusedKernel kernel_text fault
 
 -- The specification text is no thin specification for the kernel.
@@ -102,7 +108,7 @@ pub record RefusesSpec (held : Option Files) (kernel_name spec_name : List ℕ) 
   pub kernel_text : List ℕ
   pub spec_text : List ℕ
   pub kernel : Kernel
-  pub loaded : AreLoaded held kernel_name spec_name kernel_text spec_text
+  pub loaded : AreLoaded held kernel_name kernel_limit spec_name spec_limit kernel_text spec_text
   pub the_kernel : IsTheKernel kernel_text kernel
   pub refused : IsRefusedSpec kernel spec_text fault
 
@@ -119,10 +125,11 @@ pub record RefusesWidth (held : Option Files) (kernel_name spec_name : List ℕ)
 -- Want of memory is the one free answer.
 abbrev pub HasCause : ShelfView → List ℕ → List ℕ → List ℕ → TopFault → Type 0
 HasCause shelf kernel spec name Usage = ⊥
-HasCause shelf kernel spec name (Read w) = IsFirstLoadFault shelf kernel (Read w) ⊎ IsSecondLoadFault shelf kernel spec (Read w)
-HasCause shelf kernel spec name (Long w) = IsFirstLoadFault shelf kernel (Long w) ⊎ IsSecondLoadFault shelf kernel spec (Long w)
+HasCause shelf kernel spec name (Read w) = IsLoadingFault shelf kernel kernel_limit spec spec_limit (Read w)
+HasCause shelf kernel spec name (Long w) = IsLoadingFault shelf kernel kernel_limit spec spec_limit (Long w)
 HasCause shelf kernel spec name (OfKernel f) = RefusesKernel shelf.held kernel spec f
 HasCause shelf kernel spec name (OfSpec f) = RefusesSpec shelf.held kernel spec f
+HasCause shelf kernel spec name (OfCnf f) = ⊥
 HasCause shelf kernel spec name (Wide h) = RefusesWidth shelf.held kernel spec h name
 HasCause shelf kernel spec name Memory = ⊤
 HasCause shelf kernel spec name Write = ⊥
@@ -151,5 +158,6 @@ ReadsTo kernel_text spec_text (Err Memory) = ⊤
 ReadsTo kernel_text spec_text (Err Usage) = ⊥
 ReadsTo kernel_text spec_text (Err (Read w)) = ⊥
 ReadsTo kernel_text spec_text (Err (Long w)) = ⊥
+ReadsTo kernel_text spec_text (Err (OfCnf f)) = ⊥
 ReadsTo kernel_text spec_text (Err (Wide h)) = ⊥
 ReadsTo kernel_text spec_text (Err Write) = ⊥

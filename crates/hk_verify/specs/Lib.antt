@@ -2,5 +2,6 @@ pub mod Answers
 pub mod Headline
 pub mod Inputs
 pub mod Lines
+pub mod Lrat
 pub mod Verdicts
 pub mod Words

@@ -7,11 +7,13 @@ use Rattle.ir_ast.specs.declared.fault.KernelReason.{KernelReason}
 use Rattle.ir_ast.specs.declared.fault.KernelReason.TheVariants.{K1, K2, K3, K4}
 use Rattle.spec_text.specs.declared.fault.SpecReason.{SpecReason}
 use Rattle.spec_text.specs.declared.fault.SpecReason.TheVariants.{S3}
+use Rattle.hk_cnf.specs.declared.dimacs_read.CnfReason.{CnfReason}
+use Rattle.hk_cnf.specs.declared.dimacs_read.CnfReason.TheVariants.{C1, C2, C3}
 use Rattle.hk_report.specs.Texts.{line}
 use Rattle.hk_report.specs.declared.verdict.Verdict.{Verdict}
 use Rattle.hk_report.specs.declared.verdict.Verdict.TheVariants.{Accepted, Rejected, Memory as NoMemory}
 use Rattle.hk_verify.specs.declared.answer.TopFault.{TopFault}
-use Rattle.hk_verify.specs.declared.answer.TopFault.TheVariants.{Usage, Read, Long, Kernel, Spec, Wide, Memory, Write}
+use Rattle.hk_verify.specs.declared.answer.TopFault.TheVariants.{Usage, Read, Long, Kernel, Spec, Cnf, Wide, Memory, Write}
 
 -- A reason as it is printed.
 abbrev pub kernel_code : KernelReason → List ℕ
@@ -22,6 +24,11 @@ kernel_code K4 = codes "K4"
 
 abbrev pub spec_code : SpecReason → List ℕ
 spec_code S3 = codes "S3"
+
+abbrev pub cnf_code : CnfReason → List ℕ
+cnf_code C1 = codes "C1"
+cnf_code C2 = codes "C2"
+cnf_code C3 = codes "C3"
 
 -- A line that names a line of a text and a reason.
 abbrev pub coded_line : List ℕ → ℕ → List ℕ → List ℕ
@@ -34,6 +41,7 @@ fault_text words name (Read w) = line (codes "read fault " ∷ slice_index_or wo
 fault_text words name (Long w) = line (codes "long " ∷ slice_index_or words w [] ∷ [])
 fault_text words name (Kernel f) = coded_line (codes "kernel ") f.line (kernel_code f.reason)
 fault_text words name (Spec f) = coded_line (codes "spec ") f.line (spec_code f.reason)
+fault_text words name (Cnf f) = coded_line (codes "cnf ") f.line (cnf_code f.reason)
 fault_text words name (Wide h) = line (codes "wide " ∷ name ∷ [])
 fault_text words name Memory = line (codes "memory" ∷ [])
 fault_text words name Write = []
@@ -45,6 +53,7 @@ fault_status (Read w) = 5
 fault_status (Long w) = 3
 fault_status (Kernel f) = 3
 fault_status (Spec f) = 3
+fault_status (Cnf f) = 3
 fault_status (Wide h) = 3
 fault_status Memory = 7
 fault_status Write = 6

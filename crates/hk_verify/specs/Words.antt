@@ -11,6 +11,11 @@ bytes_of words = map string_bytes words
 abbrev pub IsVerify : List (List ℕ) → List ℕ → List ℕ → Type 0
 IsVerify words kernel spec = words ≡ codes "verify" ∷ kernel ∷ spec ∷ []
 
+-- The words `lrat CNF PROOF`.
+abbrev pub IsLrat : List (List ℕ) → List ℕ → List ℕ → Type 0
+IsLrat words cnf proof = words ≡ codes "lrat" ∷ cnf ∷ proof ∷ []
+
 -- The words have no form.
-abbrev pub HasNoForm : List (List ℕ) → Type 0
-HasNoForm words = (kernel spec : List ℕ) → IsVerify words kernel spec → ⊥
+pub record HasNoForm (words : List (List ℕ)) : Type 0 where
+  pub no_verify : (kernel spec : List ℕ) → IsVerify words kernel spec → ⊥
+  pub no_lrat : (cnf proof : List ℕ) → IsLrat words cnf proof → ⊥

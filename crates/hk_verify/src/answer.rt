@@ -1,5 +1,6 @@
 //! What the top call answers.
 
+use hk_cnf::CnfFault;
 use hk_report::{InitVerdict, Verdict};
 use hk_seq::Seq;
 use ir_ast::KernelFault;
@@ -18,6 +19,8 @@ pub enum TopFault {
     Kernel(KernelFault),
     /// The specification text is refused.
     Spec(SpecFault),
+    /// The clause file is refused.
+    Cnf(CnfFault),
     /// This handler has more than sixteen case bits, and is the first such.
     Wide { handler: u32 },
     /// Memory was refused before the first line.

@@ -1,10 +1,11 @@
 //! The inputs of a verification: two files, loaded in the order of their words and then read.
 
 ghost use Rattle.std.specs.Prelude.{◌≡◌, ◌≤◌, ◌<◌, ◌^◌, [], IfOk, IfErr, length};
-ghost use Rattle.hk_verify.specs.Inputs.{ShelfView, AreLoaded, AreRead, HasCause, IsLoaded, IsLoadFault, IsSmall, ReadsTo};
+ghost use Rattle.hk_verify.specs.Inputs.{ShelfView, AreRead, HasCause, IsSmall, ReadsTo};
 
 use crate::answer::TopFault;
-use hk_io::{LoadFault, Shelf};
+use crate::load::load_both;
+use hk_io::Shelf;
 use ir_ast::KernelStop;
 use ir_thin::read_kernel;
 use ir_thin::tree::Kernel;
@@ -18,64 +19,11 @@ const KERNEL_LIMIT: u32 = 16_777_216;
 /// The most bytes of a specification text: 1 MiB.
 const SPEC_LIMIT: u32 = 1_048_576;
 
-/// The word that names the kernel's file, counted from 0.
-const KERNEL_WORD: u32 = 1;
-
-/// The word that names the specification's file.
-const SPEC_WORD: u32 = 2;
-
-/// The bytes of both files.
-#[derive(Drop)]
-struct Texts {
-    kernel: Vec<u8>,
-    spec: Vec<u8>,
-}
-
 /// A kernel and a specification that fits it.
 #[derive(Drop)]
 pub struct Inputs {
     pub kernel: Kernel,
     pub spec: Spec,
-}
-
-/// Loads the file of a word.
-fn load<F: Shelf>(
-    alloc: Global,
-    shelf: &mut F,
-    word: u32,
-    name: &str,
-    limit: u32,
-) -> Result<Vec<u8>, TopFault>
-    ensures loaded { IfOk result (λ text. IsLoaded (F.held shelf.old) name.now limit text.items) }
-    ensures fault { IfErr result (IsLoadFault (F.held shelf.old) (F.faults shelf.old) (F.faults shelf.new) word name.now limit) }
-    ensures held { F.held shelf.new ≡ F.held shelf.old }
-    ensures later { F.faults shelf.old ≤ F.faults shelf.new }
-{
-    match shelf.load(alloc, name, limit) {
-        Ok(text) => Ok(text),
-        Err(LoadFault::Failed) => Err(TopFault::Read { word }),
-        Err(LoadFault::TooLong) => Err(TopFault::Long { word }),
-        Err(LoadFault::Memory) => Err(TopFault::Memory),
-    }
-}
-
-/// Loads both files, the kernel's first.
-fn load_both<F: Shelf>(
-    alloc: Global,
-    shelf: &mut F,
-    kernel: &str,
-    spec: &str,
-) -> Result<Texts, TopFault>
-    ensures loaded { IfOk result (λ texts. AreLoaded (F.held shelf.old) kernel.now spec.now texts.kernel.items texts.spec.items) }
-    ensures fault { IfErr result (λ fault.
-        let view : ShelfView = record { held = F.held shelf.old; before = F.faults shelf.old; after = F.faults shelf.new } in
-        HasCause view kernel.now spec.now [] fault) }
-    ensures held { F.held shelf.new ≡ F.held shelf.old }
-    ensures later { F.faults shelf.old ≤ F.faults shelf.new }
-{
-    let kernel = load(alloc, shelf, KERNEL_WORD, kernel, KERNEL_LIMIT)?;
-    let spec = load(alloc, shelf, SPEC_WORD, spec, SPEC_LIMIT)?;
-    Ok(Texts { kernel, spec })
 }
 
 /// Reads both texts, the kernel's first.
@@ -111,6 +59,6 @@ pub fn read_inputs<F: Shelf>(
     ensures held { F.held shelf.new ≡ F.held shelf.old }
     ensures later { F.faults shelf.old ≤ F.faults shelf.new }
 {
-    let texts = load_both(alloc, shelf, kernel, spec)?;
-    read_both(alloc, &texts.kernel, &texts.spec)
+    let texts = load_both(alloc, shelf, kernel, KERNEL_LIMIT, spec, SPEC_LIMIT)?;
+    read_both(alloc, &texts.first, &texts.second)
 }

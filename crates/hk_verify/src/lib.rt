@@ -6,6 +6,10 @@
 
 pub mod answer;
 mod inputs;
+mod load;
+mod lrat;
+#[cfg(test)]
+mod lrat_tests;
 mod refusal;
 #[cfg(test)]
 mod tests;

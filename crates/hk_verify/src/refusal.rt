@@ -5,10 +5,11 @@ ghost use Rattle.hk_io.specs.Faults.{Rose};
 ghost use Rattle.hk_io.specs.Shown.{shown_with, ShowsPrefix};
 ghost use Rattle.hk_verify.specs.Words.{bytes_of};
 ghost use Rattle.hk_report.specs.Texts.{line};
-ghost use Rattle.hk_verify.specs.Lines.{fault_text, coded_line, fault_status, kernel_code, spec_code};
+ghost use Rattle.hk_verify.specs.Lines.{fault_text, coded_line, fault_status, kernel_code, spec_code, cnf_code};
 ghost use Rattle.hk_verify.specs.Answers.{SinkView, IsRefused};
 
 use crate::answer::{Answer, TopFault};
+use hk_cnf::CnfReason;
 use hk_io::{Sink, SinkFault};
 use hk_report::{InitVerdict, Part, put_line};
 use hk_seq::Seq;
@@ -26,6 +27,7 @@ pub fn status(answer: &TopFault) -> u8
         TopFault::Long { .. } => 3,
         TopFault::Kernel(_) => 3,
         TopFault::Spec(_) => 3,
+        TopFault::Cnf(_) => 3,
         TopFault::Wide { .. } => 3,
         TopFault::Memory => 7,
         TopFault::Write => 6,
@@ -50,6 +52,17 @@ fn spec_reason(reason: SpecReason) -> &'static [u8]
 {
     match reason {
         SpecReason::S3 => b"S3",
+    }
+}
+
+/// A reason of the clause file's reader as it is printed.
+fn cnf_reason(reason: CnfReason) -> &'static [u8]
+    ensures { result.now ≡ cnf_code reason }
+{
+    match reason {
+        CnfReason::C1 => b"C1",
+        CnfReason::C2 => b"C2",
+        CnfReason::C3 => b"C3",
     }
 }
 
@@ -129,6 +142,7 @@ fn put_fault<O: Sink>(
             kernel_reason(fault.reason),
         ),
         TopFault::Spec(fault) => put_coded(out, b"spec ", fault.line, spec_reason(fault.reason)),
+        TopFault::Cnf(fault) => put_coded(out, b"cnf ", fault.line, cnf_reason(fault.reason)),
         TopFault::Wide { .. } => put_named(out, b"wide ", name),
         TopFault::Memory => put_text(out, b"memory"),
         TopFault::Write => Ok(()),

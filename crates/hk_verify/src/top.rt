@@ -1,26 +1,31 @@
 //! The one call that the program makes.
 
-ghost use Rattle.std.specs.Prelude.{◌≡◌};
-ghost use Rattle.hk_verify.specs.Words.{HasNoForm, IsVerify, bytes_of};
+ghost use Rattle.std.specs.Prelude.{◌≡◌, ◌∷◌, [], List, ℕ, IfSome, IfNone};
+ghost use Rattle.hk_verify.specs.Words.{HasNoForm, IsLrat, IsVerify, bytes_of};
 ghost use Rattle.hk_verify.specs.Inputs.{ShelfView};
 ghost use Rattle.hk_verify.specs.Answers.{SinkView, IsUsage, Means};
 ghost use Rattle.hk_verify.specs.Headline.{AcceptsCorrect, RejectsRefuted};
-ghost use Rattle.std.specs.Prelude.{List, ℕ, IfSome, IfNone};
+ghost use Rattle.hk_verify.specs.Lrat.{MeansLrat, RefutesSoundly};
 
 use crate::answer::{Answer, TopFault};
+use crate::lrat::lrat;
 use crate::refusal::refuse;
 use crate::verify::verify;
 use hk_io::{Shelf, Sink};
 use std::alloc::Global;
 
-/// The two names behind `verify`, where the words have its form.
-fn form_of<'x>(words: &'x [String]) -> Option<(&'x str, &'x str)>
-    ensures form { IfSome result (λ names. IsVerify (bytes_of words.now) names.0.now names.1.now) }
-    ensures no_form { IfNone result (HasNoForm (bytes_of words.now)) }
+/// The two names behind a command, where the words are just these three.
+fn names_behind<'x>(words: &'x [String], command: &'x str) -> Option<(&'x str, &'x str)>
+    ensures form { IfSome result (λ names. bytes_of words.now ≡ command.now ∷ names.0.now ∷ names.1.now ∷ []) }
+    ensures no_form { IfNone result ((first second : List ℕ) → bytes_of words.now ≡ command.now ∷ first ∷ second ∷ [] → ⊥) }
 {
     match words {
-        [command, kernel, spec] if command.as_str() == "verify" => {
-            Some((kernel.as_str(), spec.as_str()))
+        [word, first, second] => {
+            if word.as_str() == command {
+                Some((first.as_str(), second.as_str()))
+            } else {
+                None
+            }
         }
         _ => None,
     }
@@ -28,7 +33,8 @@ fn form_of<'x>(words: &'x [String]) -> Option<(&'x str, &'x str)>
 
 /// Does what the words ask, reads from the shelf and reports on the sink.
 ///
-/// The one form so far is `verify KERNEL SPEC`; other words are a faulty command line. Want of memory alone is free.
+/// The forms so far are `verify KERNEL SPEC` and `lrat CNF PROOF`; other words are a faulty command line. Want of memory
+/// alone is free.
 pub fn run_words<F: Shelf, O: Sink>(
     alloc: Global,
     words: &[String],
@@ -44,6 +50,13 @@ pub fn run_words<F: Shelf, O: Sink>(
         let view : ShelfView = record { held = F.held shelf.old; before = F.faults shelf.old; after = F.faults shelf.new } in
         let sink : SinkView = record { shown = O.shown out.old; shown' = O.shown out.new; faults = O.faults out.old; faults' = O.faults out.new } in
         Means view sink (bytes_of words.now) kernel spec result }
+    // where a refutation is reported, no assignment satisfies the clause list
+    ensures refuted { RefutesSoundly (F.held shelf.old) (bytes_of words.now) result }
+    // what is answered and shown for a refutation: the line of its first fault or of none, or a fault with its cause
+    ensures checked { (cnf proof : List ℕ) → IsLrat (bytes_of words.now) cnf proof →
+        let view : ShelfView = record { held = F.held shelf.old; before = F.faults shelf.old; after = F.faults shelf.new } in
+        let sink : SinkView = record { shown = O.shown out.old; shown' = O.shown out.new; faults = O.faults out.old; faults' = O.faults out.new } in
+        MeansLrat view sink (bytes_of words.now) cnf proof result }
     // words without a form get the line of usage
     ensures usage { HasNoForm (bytes_of words.now) →
         let sink : SinkView = record { shown = O.shown out.old; shown' = O.shown out.new; faults = O.faults out.old; faults' = O.faults out.new } in
@@ -51,8 +64,11 @@ pub fn run_words<F: Shelf, O: Sink>(
     ensures unread { HasNoForm (bytes_of words.now) → F.faults shelf.new ≡ F.faults shelf.old }
     ensures held { F.held shelf.new ≡ F.held shelf.old }
 {
-    match form_of(words) {
-        Some((kernel, spec)) => verify(alloc, words, kernel, spec, shelf, out),
+    if let Some((kernel, spec)) = names_behind(words, "verify") {
+        return verify(alloc, words, kernel, spec, shelf, out);
+    }
+    match names_behind(words, "lrat") {
+        Some((cnf, proof)) => lrat(alloc, words, cnf, proof, shelf, out),
         None => refuse(alloc, out, words, &[], TopFault::Usage),
     }
 }

@@ -4,7 +4,7 @@ use Rattle.std.specs.Ordering.{int_eq}
 use Rattle.hk_cnf.specs.Literal.{has, IsLiteral}
 use Rattle.hk_lrat.proofs.Denied.{int_eq-flip}
 use Rattle.hk_lrat.proofs.Spelling.{both-found, both-none, seen-more, literal-bits}
-use Rattle.hk_lrat.proofs.log_read.has_both.Goals as goal
+use Rattle.hk_lrat.proofs.log_read.has_both_by_table.Goals as goal
 
 pub returns-then-contains : goal.returns-then-contains
 returns-then-contains c =

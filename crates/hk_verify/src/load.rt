@@ -1,0 +1,63 @@
+//! Files that the words of a command name, loaded in the order of the words.
+
+ghost use Rattle.std.specs.Prelude.{◌≡◌, ◌≤◌, IfOk, IfErr};
+ghost use Rattle.hk_verify.specs.Inputs.{ShelfView, AreLoaded, IsLoaded, IsLoadFault, IsLoadingFault};
+
+use crate::answer::TopFault;
+use hk_io::{LoadFault, Shelf};
+use std::alloc::Global;
+
+/// The word that names the first file, counted from 0.
+const FIRST_WORD: u32 = 1;
+
+/// The word that names the second file.
+const SECOND_WORD: u32 = 2;
+
+/// The bytes of both files.
+#[derive(Drop)]
+pub struct Texts {
+    pub first: Vec<u8>,
+    pub second: Vec<u8>,
+}
+
+/// Loads the file of a word, of at most `limit` bytes.
+fn load<F: Shelf>(
+    alloc: Global,
+    shelf: &mut F,
+    word: u32,
+    name: &str,
+    limit: u32,
+) -> Result<Vec<u8>, TopFault>
+    ensures loaded { IfOk result (λ text. IsLoaded (F.held shelf.old) name.now limit text.items) }
+    ensures fault { IfErr result (IsLoadFault (F.held shelf.old) (F.faults shelf.old) (F.faults shelf.new) word name.now limit) }
+    ensures held { F.held shelf.new ≡ F.held shelf.old }
+    ensures later { F.faults shelf.old ≤ F.faults shelf.new }
+{
+    match shelf.load(alloc, name, limit) {
+        Ok(text) => Ok(text),
+        Err(LoadFault::Failed) => Err(TopFault::Read { word }),
+        Err(LoadFault::TooLong) => Err(TopFault::Long { word }),
+        Err(LoadFault::Memory) => Err(TopFault::Memory),
+    }
+}
+
+/// Loads the files of the words 1 and 2, each of at most so many bytes; the second is loaded only behind the first.
+pub fn load_both<F: Shelf>(
+    alloc: Global,
+    shelf: &mut F,
+    first: &str,
+    first_limit: u32,
+    second: &str,
+    second_limit: u32,
+) -> Result<Texts, TopFault>
+    ensures loaded { IfOk result (λ texts. AreLoaded (F.held shelf.old) first.now first_limit second.now second_limit texts.first.items texts.second.items) }
+    ensures fault { IfErr result (λ fault.
+        let view : ShelfView = record { held = F.held shelf.old; before = F.faults shelf.old; after = F.faults shelf.new } in
+        IsLoadingFault view first.now first_limit second.now second_limit fault) }
+    ensures held { F.held shelf.new ≡ F.held shelf.old }
+    ensures later { F.faults shelf.old ≤ F.faults shelf.new }
+{
+    let first = load(alloc, shelf, FIRST_WORD, first, first_limit)?;
+    let second = load(alloc, shelf, SECOND_WORD, second, second_limit)?;
+    Ok(Texts { first, second })
+}
