@@ -1,0 +1,17 @@
+pub mod Extending
+pub mod Places
+pub mod Stepping
+pub mod Rounds
+pub mod Marking
+pub mod Resolving
+pub mod Tracing
+pub mod Leading
+pub mod Collecting
+pub mod Asserting
+pub mod Logging
+pub mod Leveling
+pub mod Satisfying
+pub mod Going
+pub mod Running
+pub mod Ternary
+pub mod Ending

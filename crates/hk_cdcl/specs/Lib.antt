@@ -1,0 +1,10 @@
+pub mod Fresh
+pub mod Kept
+pub mod Path
+pub mod Propagation
+pub mod Analysis
+pub mod Learning
+pub mod Searching
+pub mod Solved
+pub mod States
+pub mod Ends

@@ -1,0 +1,20 @@
+//! The clause-learning solver.
+//!
+//! Stands on the clause lists and their logs. A clause list comes in; a satisfying assignment, a log that refutes the
+//! list, or a log that spent its budget on clauses which unit propagation did not give, goes out.
+#![tactic(auto)]
+
+mod analyse;
+mod learn;
+mod propagate;
+mod scan;
+mod search;
+mod solver;
+mod trail;
+
+pub use propagate::{FullScan, Propagate};
+pub use solver::{SolveEnd, solve};
+pub use trail::Trail;
+
+#[cfg(test)]
+mod tests;

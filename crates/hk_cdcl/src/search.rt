@@ -1,0 +1,253 @@
+//! The search: what it keeps between two conflicts, and how it decides, learns and goes back.
+
+ghost use Rattle.std.specs.Prelude.{◌≡◌, ◌-◌, ◌<◌, ◌≤◌, [], false, length, take, slice_index, IfOk, OnOk, IfSome, IfNone, MatchOption};
+ghost use Rattle.std.specs.List.{All, AllPairs};
+ghost use Rattle.hk_cnf.specs.Literal.{IsWithin, has};
+ghost use Rattle.hk_cdcl.specs.Fresh.{AreQuiet};
+ghost use Rattle.hk_cdcl.specs.Path.{is_set};
+ghost use Rattle.hk_cdcl.specs.Propagation.{IsConflict};
+ghost use Rattle.hk_cdcl.specs.Searching.{IsLogged, IsJump, with_clause, with_row};
+ghost use Rattle.hk_cdcl.specs.States.{Leveled, IsDecided, IsBack, IsClosed, Stepped};
+ghost use Rattle.hk_cdcl.specs.Solved.{Satisfies};
+
+use crate::learn::{Learned, learn, refute};
+use crate::trail::Trail;
+use hk_cnf::{Assignment, ClauseList, Lit};
+use hk_lrat::{IdList, LitList, LratLog, LratRow};
+use std::alloc::{AllocError, Global};
+
+/// The same clauses, over memory of their own.
+fn copy_of(alloc: Global, list: &ClauseList) -> Result<ClauseList, AllocError>
+    ensures { IfOk result (λ copy. copy ≡ list.now) }
+{
+    let mut copy = ClauseList::new(alloc, list.vars());
+    for i in 0..list.len() {
+        copy.push(list.clause(i))?;
+    }
+    Ok(copy)
+}
+
+/// How many levels begin before `rest`, of those before the last.
+fn levels_before(levels: &[usize], rest: usize) -> usize
+    requires some { 0 < length levels.now }
+    requires bound { rest ≤ slice_index levels.now (length levels.now - 1) }
+    requires rising { AllPairs (λ d e. d < e) levels.now }
+    ensures inside { result < length levels.now }
+    ensures bound { rest ≤ slice_index levels.now result }
+    ensures before { All (λ level. level < rest) (take result levels.now) }
+{
+    let mut count = levels.len() - 1;
+    while 0 < count && rest <= levels[count - 1] {
+        count -= 1;
+    }
+    count
+}
+
+/// Drops the levels that begin at `rest` or later, and gives the place at which the first of them began.
+fn drop_levels(levels: &mut Vec<usize>, rest: usize) -> usize
+    requires some { 0 < length levels.old.items }
+    requires bound { rest ≤ slice_index levels.old.items (length levels.old.items - 1) }
+    requires rising { AllPairs (λ d e. d < e) levels.old.items }
+    ensures { IsJump levels.old.items levels.new.items rest result }
+{
+    let count = levels_before(levels.as_slice(), rest);
+    let target = levels[count];
+    levels.truncate(count);
+    target
+}
+
+/// The state of the search between two steps.
+#[derive(Drop)]
+pub struct Search {
+    /// The given clauses, and then the learned ones.
+    pub clauses: ClauseList,
+    /// A row for each learned clause.
+    pub log: LratLog,
+    /// The literals that are true.
+    pub trail: Trail,
+    /// For each decision that stands, its place on the trail.
+    pub levels: Vec<usize>,
+}
+
+impl Search {
+    /// Before the first step over this list.
+    pub fn new(alloc: Global, list: &ClauseList) -> Result<Search, AllocError>
+        ensures searching { IfOk result (λ s. Leveled s × IsLogged list.now s.clauses s.log) }
+        ensures clauses { IfOk result (λ s. s.clauses ≡ list.now) }
+        ensures trail { IfOk result (λ s. s.trail.lits ≡ []) }
+    {
+        let trail = Trail::new(alloc, list.vars())?;
+        let clauses = copy_of(alloc, list)?;
+        Ok(Search {
+            clauses,
+            log: LratLog::new(alloc),
+            trail,
+            levels: Vec::new(alloc),
+        })
+    }
+
+    /// Makes the variable at a place true as a decision, where unit propagation has nothing left to do.
+    fn decide(&mut self, place: u64) -> Result<(), AllocError>
+        requires leveled { Leveled self.old }
+        requires quiet { AreQuiet (has self.old.trail.lits) self.old.clauses.clauses }
+        requires within { place < self.old.trail.vars }
+        requires unset { is_set self.old.trail.lits place ≡ false }
+        ensures { OnOk result (IsDecided self.old self.new) }
+    {
+        let len = self.trail.len();
+        self.levels.push(len)?;
+        self.trail.push(Lit::of_place(place), 0);
+        let _count = self.trail.len();
+        Ok(())
+    }
+
+    /// Decides the first variable that is not set, or gives the assignment where all are, where unit propagation has
+    /// nothing left to do.
+    fn advance(&mut self, alloc: Global) -> Result<Option<Assignment>, AllocError>
+        requires leveled { Leveled self.old }
+        requires quiet { AreQuiet (has self.old.trail.lits) self.old.clauses.clauses }
+        ensures { IfOk result (λ r. MatchOption r (IsDecided self.old self.new) (Satisfies self.old.clauses)) }
+    {
+        let _within = self.clauses.len();
+        match self.trail.first_unset() {
+            Some(place) => {
+                self.decide(place)?;
+                Ok(None)
+            }
+            None => {
+                let values = self.trail.values(alloc)?;
+                Ok(Some(Assignment::new(values)))
+            }
+        }
+    }
+}
+
+/// Adds a clause with its row at the ends of the list and of the log.
+fn add_row(
+    clauses: &mut ClauseList,
+    log: &mut LratLog,
+    clause: Vec<Lit>,
+    hints: IdList,
+) -> Result<(), AllocError>
+    requires { All (IsWithin clauses.old.vars) clause.items }
+    ensures clauses { OnOk result (clauses.new ≡ with_clause clauses.old clause.items) }
+    ensures log { OnOk result (log.new ≡ with_row clauses.old log.old clause.items hints) }
+{
+    clauses.push(clause.as_slice())?;
+    let row = LratRow::Add {
+        id: clauses.len() as u64,
+        clause: LitList::from_vec(clause),
+        hints,
+    };
+    log.push(row)?;
+    Ok(())
+}
+
+impl Search {
+    /// Learns from a conflict, and goes back to the lowest level at which the learned clause is unit. Gives the length of
+    /// the trail then.
+    fn resolve(&mut self, alloc: Global, conflict: usize) -> Result<usize, AllocError>
+        requires leveled { Leveled self.old }
+        requires some { 0 < length self.old.levels.items }
+        requires conflict { IsConflict self.old.clauses.clauses self.old.trail.lits conflict }
+        ensures { IfOk result (IsBack self.old self.new) }
+    {
+        let _path = self.trail.len();
+        let zero = self.levels[0];
+        let below = self.levels[self.levels.len() - 1];
+        let Learned {
+            clause,
+            hints,
+            rest,
+        } = learn(alloc, &self.clauses, &self.trail, zero, below, conflict)?;
+        let target = drop_levels(&mut self.levels, rest);
+        add_row(&mut self.clauses, &mut self.log, clause, hints)?;
+        self.trail.cut(target);
+        Ok(target)
+    }
+
+    /// Adds the empty clause, from a conflict before the first decision.
+    fn close(&mut self, alloc: Global, conflict: usize) -> Result<(), AllocError>
+        requires leveled { Leveled self.old }
+        requires none { length self.old.levels.items ≡ 0 }
+        requires conflict { IsConflict self.old.clauses.clauses self.old.trail.lits conflict }
+        ensures { OnOk result (IsClosed self.old self.new) }
+    {
+        let hints = refute(alloc, &self.clauses, &self.trail, conflict)?;
+        add_row(&mut self.clauses, &mut self.log, Vec::new(alloc), hints)?;
+        Ok(())
+    }
+}
+
+/// What a step of the search came to.
+#[derive(Drop)]
+pub enum Step {
+    /// A variable was decided.
+    Decided,
+    /// A clause was learned, and the trail has this length now.
+    Back(usize),
+    /// All clauses are true under this assignment.
+    Sat(Assignment),
+    /// The empty clause was added.
+    Unsat,
+    /// The budget was spent before this conflict.
+    Spent,
+}
+
+impl Search {
+    /// Learns from a conflict: the empty clause before the first decision, nothing where the budget is spent, else a clause.
+    fn on_conflict(
+        &mut self,
+        alloc: Global,
+        budget: u64,
+        conflict: usize,
+    ) -> Result<Step, AllocError>
+        requires leveled { Leveled self.old }
+        requires conflict { IsConflict self.old.clauses.clauses self.old.trail.lits conflict }
+        ensures { IfOk result (Stepped budget self.old self.new) }
+    {
+        if self.levels.is_empty() {
+            self.close(alloc, conflict)?;
+            return Ok(Step::Unsat);
+        }
+        if self.log.len() as u64 >= budget {
+            return Ok(Step::Spent);
+        }
+        let length = self.resolve(alloc, conflict)?;
+        Ok(Step::Back(length))
+    }
+
+    /// Answers unit propagation: learns from a conflict, or decides where there is none.
+    pub fn respond(
+        &mut self,
+        alloc: Global,
+        budget: u64,
+        conflict: Option<u64>,
+    ) -> Result<Step, AllocError>
+        requires leveled { Leveled self.old }
+        requires conflict { IfSome conflict (IsConflict self.old.clauses.clauses self.old.trail.lits) }
+        requires quiet { IfNone conflict (AreQuiet (has self.old.trail.lits) self.old.clauses.clauses) }
+        ensures { IfOk result (Stepped budget self.old self.new) }
+    {
+        match conflict {
+            Some(place) => self.on_conflict(alloc, budget, place as usize),
+            None => match self.advance(alloc)? {
+                Some(assignment) => Ok(Step::Sat(assignment)),
+                None => Ok(Step::Decided),
+            },
+        }
+    }
+
+    /// The log, with no copy.
+    pub fn into_log(self) -> LratLog
+        ensures { result ≡ self.log }
+    {
+        let Search {
+            clauses: _,
+            log,
+            trail: _,
+            levels: _,
+        } = self;
+        log
+    }
+}
