@@ -1,0 +1,9 @@
+pub mod Insertion
+pub mod Interning
+pub mod KindLemmas
+pub mod Prefixes
+pub mod QuantifierLemmas
+pub mod ScopeLemmas
+pub mod TableLemmas
+pub mod Walking
+pub mod TermLists

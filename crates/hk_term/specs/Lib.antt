@@ -1,0 +1,9 @@
+pub mod Operations
+pub mod Shape
+pub mod Meaning
+pub mod Facts
+pub mod Tables
+pub mod Same
+pub mod Kept
+pub mod Scoped
+pub mod Walk
