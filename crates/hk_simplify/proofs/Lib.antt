@@ -1,0 +1,4 @@
+pub mod BitLaws
+pub mod PartLaws
+pub mod RingLaws
+pub mod TupleLaws

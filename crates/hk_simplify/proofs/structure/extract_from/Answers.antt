@@ -1,0 +1,27 @@
+use Rattle.std.proofs.Common.{◌≡◌, ◌∙◌, ◌+◌, ◌/◌, ◌%◌, ◌^◌, ◌<◌, ◌≤◌, arith, ap, sym}
+use Rattle.hk_term.specs.Shape.{width}
+use Rattle.hk_term.specs.Meaning.{value}
+use Rattle.hk_simplify.specs.Forms.{form_value}
+use Rattle.hk_simplify.proofs.PartLaws.{bits_above, zeros_from_bottom, sign_from_bottom}
+use Rattle.hk_simplify.proofs.structure.extract_from.Goals as goal
+
+pub returns-in-Zero-clause-value : goal.returns-in-Zero-clause-value
+returns-in-Zero-clause-value c =
+    let known = rw c.in-Zero.is at c.requires.known in
+    let u = rw c.sized-u.ensures.width at c.sized-u.ensures.below in
+    λ v. ap (λ f. form_value c.args.t.now f v) c.number.ensures.is
+    ∙ bits_above c.args.to c.args.low _ _ (rw c.sized-u.ensures.width at c.if-u-low.true) (u v)
+    ∙ ap (λ n. n / 2 ^ c.args.low % 2 ^ c.args.to) (sym (known v))
+
+pub returns-in-Zero-2-clause-value : goal.returns-in-Zero-2-clause-value
+returns-in-Zero-2-clause-value c =
+    let known = rw c.in-Zero.is at c.requires.known in
+    let u = rw c.sized-u.ensures.width at c.sized-u.ensures.below in
+    λ v. c.zero_extend_form.ensures.value v
+    ∙ zeros_from_bottom c.args.to c.args.low _ _ _ c.if-low-eq0.true (known v) (rw c.sized-u.ensures.width at c.if-u-to.true) (u v)
+
+pub returns-in-Sign-clause-value : goal.returns-in-Sign-clause-value
+returns-in-Sign-clause-value c =
+    let known = rw c.in-Sign.is at c.requires.known in
+    let narrower : c.args.to ≤ width c.args.t.now c.args.a = omega arith in
+    λ v. c.sign_extend_form.ensures.value v ∙ sign_from_bottom c.args.to c.args.low _ _ _ _ c.if-low-eq0-2.true (known v) narrower

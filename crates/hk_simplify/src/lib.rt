@@ -1,0 +1,33 @@
+//! Constructors of bit-vector terms that simplify, as SMT solvers do before they bit-blast: constants are folded, and neutral and
+//! absorbing operands, double negations and extractions of what was put together fall away.
+//!
+//! They stand above the list of terms and below what builds terms: symbolic execution, specifications and instances. What
+//! comes in are terms whose widths go together; what goes out is a term with the operation's value under every reading.
+//! Each call interns at most one node.
+#![tactic(auto)]
+
+mod arithmetic;
+mod bitwise;
+mod choice;
+mod compare;
+mod constants;
+mod form;
+mod laws;
+mod plain;
+mod quantify;
+mod shift;
+mod structure;
+
+pub use arithmetic::{add, mul, neg, sdiv, srem, sub, udiv, urem};
+pub use bitwise::{and, not, or, xor};
+pub use choice::choose;
+pub use compare::{eq, slt, ult};
+pub use laws::sums_agree;
+pub use quantify::for_all;
+pub use shift::{ashr, lshr, shl};
+pub use structure::{concat, extract, sign_extend, zero_extend};
+
+#[cfg(test)]
+mod shape_tests;
+#[cfg(test)]
+mod tests;
