@@ -1,0 +1,5 @@
+pub mod Negated
+pub mod Products
+pub mod Shifts
+pub mod WordArithmetic
+pub mod WordNumbers

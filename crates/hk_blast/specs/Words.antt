@@ -1,0 +1,22 @@
+-- Words of literals as numbers, least bit first.
+use Rattle.std.specs.Prelude.{ℕ, ◌+◌, ◌*◌, Bool, true, false, not, ◌&&◌, ◌||◌, List, [], ◌∷◌, ℤ}
+use Rattle.hk_cnf.specs.Circuit.{Circuit, gate_value}
+
+-- a truth value as a number
+abbrev pub bit : Bool → ℕ
+bit true = 1
+bit false = 0
+
+-- the number of a word, where the variables that no gate fixes have these values
+abbrev pub gate_number : Circuit → List ℤ → (ℕ → Bool) → ℕ
+gate_number c [] v = 0
+gate_number c (l ∷ ls) v = bit (gate_value c l v) + 2 * gate_number c ls v
+
+-- one of two truth values is true
+abbrev pub differ : Bool → Bool → Bool
+differ true b = not b
+differ false b = b
+
+-- two of three truth values are true
+abbrev pub majority : Bool → Bool → Bool → Bool
+majority a b c = (a && b) || (differ a b && c)
