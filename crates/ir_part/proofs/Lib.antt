@@ -1,0 +1,11 @@
+pub mod Digits
+pub mod TypeSteps
+pub mod OperandSteps
+pub mod ManySteps
+pub mod SameSteps
+pub mod Fronts
+pub mod Lists
+pub mod SameLaw
+pub mod TypeLaws
+pub mod AlignLaw
+pub mod OperandLaws
