@@ -1,0 +1,9 @@
+pub mod Seen
+pub mod WordLaws
+pub mod PartSound
+pub mod PartComplete
+pub mod RowLaws
+pub mod OperationLaws
+pub mod InnerLaws
+pub mod AnswerLaws
+pub mod LeftOutSteps

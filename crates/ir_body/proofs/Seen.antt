@@ -1,0 +1,27 @@
+-- The indices of the code as a list of pairs.
+use Rattle.std.proofs.Common.{◌≡◌, ℕ, List, [], ◌∷◌, map, refl, ap}
+use Rattle.ir_ast.specs.View.{view_type, view_operand, view_indices}
+use Rattle.ir_ast.specs.Plain.{Ty, Val}
+use Rattle.ir_ast.specs.ProgramView.{view_typed}
+use Rattle.ir_ast.specs.declared.types.IrType.{IrType}
+use Rattle.ir_ast.specs.declared.operand.Operand.{Operand}
+use Rattle.ir_lex.specs.Tok.{Tok}
+use Rattle.ir_part.specs.Operands.{indices_from}
+use Rattle.ir_part.proofs.OperandSteps as steps
+
+pub indices_seen : (is : List (IrType × Operand)) → view_indices is ≡ indices_from (view_typed is)
+indices_seen is = steps.indices_seen is
+
+pub same_items : {A : Type 0} (xs : List A) → map (λ (x : A). x) xs ≡ xs
+same_items [] = refl
+same_items (x ∷ xs) = ap (λ ys. x ∷ ys) (same_items xs)
+
+-- what is read, and the tokens behind it
+abbrev pub front_pair : {A : Type 0} → A → List Tok → A × List Tok
+front_pair a ts = (a, ts)
+
+abbrev pub typed_view : IrType × Operand → Ty × Val
+typed_view p = (view_type p.0, view_operand p.1)
+
+abbrev pub arm_view : Operand × List ℕ → Val × List ℕ
+arm_view p = (view_operand p.0, p.1)
