@@ -1,0 +1,9 @@
+pub mod InitSteps
+pub mod ParameterSteps
+pub mod Combining
+pub mod InitLaws
+pub mod ParameterLaws
+pub mod TopLaws
+pub mod RangeLaws
+pub mod Answering
+pub mod Listing
