@@ -3,3 +3,4 @@ pub mod View
 pub mod Table
 pub mod Program
 pub mod ProgramView
+pub mod Small

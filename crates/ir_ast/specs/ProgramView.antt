@@ -1,5 +1,5 @@
 -- What the instructions, functions and modules of the code mean: the plain data with the same parts.
-use Rattle.std.specs.Prelude.{ℕ, ℤ, Option, option_map, List, map}
+use Rattle.std.specs.Prelude.{ℕ, option_map, List, map}
 use Rattle.ir_ast.specs.Plain.{Ty, Val}
 use Rattle.ir_ast.specs.View.{view_type, view_operand, view_gep, view_init}
 use Rattle.ir_ast.specs.Program as plain

@@ -1,5 +1,5 @@
 -- What a tree of the code means: the plain data with the same parts.
-use Rattle.std.specs.Prelude.{ℕ, ℤ, Bool, List, [], ◌∷◌, map}
+use Rattle.std.specs.Prelude.{List, [], ◌∷◌, map}
 use Rattle.ir_ast.specs.Plain as plain
 use Rattle.ir_ast.specs.Plain.{Ty, Tys, Val, Form, Indices, Ini, Inis, no_types, type_and, no_indices, index_and, no_inits, init_and}
 use Rattle.ir_ast.specs.declared.types.IrType.{IrType}

@@ -18,6 +18,10 @@ pub enum KernelReason {
     /// A name that is defined a second time in its scope.
     #[error("K4")]
     K4,
+    /// A type or an operand that its instruction does not take, and, until kernels of every kind have their meaning,
+    /// whatever is no part of a thin kernel.
+    #[error("K9")]
+    K9,
 }
 
 /// A refusal: the line of the text, counted from 1, and the reason.

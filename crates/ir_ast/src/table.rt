@@ -1,7 +1,8 @@
 //! Symbol tables: entries by name, in text order.
 
-ghost use Rattle.std.specs.Prelude.{◌≡◌, ◌+◌, ◌<◌, ◌^◌, ◌++◌, ◌∷◌, ◌↔◌, [], length, List, ℕ, Some, None, Option, option_map, slice_get, IsSome, OnOk, OnErr, IsErrOf};
-ghost use Rattle.ir_ast.specs.Table.{place_of};
+ghost use Rattle.std.specs.Prelude.{◌≡◌, ◌+◌, ◌<◌, ◌^◌, ◌++◌, ◌∷◌, ◌↔◌, [], length, List, ℕ, Some, None, Option, option_map, slice_get, bytes_eq, IsSome, OnOk, OnErr, IsErrOf};
+ghost use Rattle.std.specs.List.{IsDistinct};
+ghost use Rattle.ir_ast.specs.Table.{names_of, place_of};
 
 use crate::name::Name;
 use indexmap::IndexMap;
@@ -56,7 +57,8 @@ impl<E: Drop> Table<E> {
     /// The place of the entry of a name.
     pub fn get(&self, name: &Name) -> Option<u32>
         requires { length self.now < 2 ^ 32 }
-        ensures { result ≡ place_of name.now self.now }
+        ensures place { result ≡ place_of name.now self.now }
+        ensures distinct { IsDistinct bytes_eq (names_of self.now) }
     {
         match self.entries.get_index_of(name) {
             Some(place) => Some(place as u32),
@@ -75,7 +77,8 @@ impl<E: Drop> Table<E> {
     /// How many entries there are.
     pub fn len(&self) -> u32
         requires { length self.now < 2 ^ 32 }
-        ensures { result ≡ length self.now }
+        ensures count { result ≡ length self.now }
+        ensures distinct { IsDistinct bytes_eq (names_of self.now) }
     {
         self.entries.len() as u32
     }

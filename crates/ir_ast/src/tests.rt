@@ -11,6 +11,7 @@ fn codes_and_lines_are_printed(rt: HostRuntime) -> Result<(), AllocError> {
         (KernelReason::K2, "K2"),
         (KernelReason::K3, "K3"),
         (KernelReason::K4, "K4"),
+        (KernelReason::K9, "K9"),
     ];
     for (reason, code) in table {
         assert_eq!(rt; format!(in alloc; "{reason}")?.as_str(), code);

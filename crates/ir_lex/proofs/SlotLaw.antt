@@ -1,13 +1,12 @@
 -- A token list spells at most one `alloca`, with its alignment or without.
-use Rattle.std.proofs.Common.{◌≡◌, ℕ, List, [], ◌∷◌, ◌++◌, refl, sym, ◌∙◌, ap, subst, append-nil, inl, inr}
+use Rattle.std.proofs.Common.{◌≡◌, ℕ, List, [], ◌∷◌, ◌++◌, sym, ◌∙◌, ap, subst, append-nil, inl, inr}
 use Rattle.std.specs.Prelude.{Option, Some, None, codes}
-use Rattle.ir_ast.specs.Plain.{Ty}
 use Rattle.ir_ast.specs.Program.{Act}
 use Rattle.ir_lex.specs.Tok.{Tok, word, mark}
 use Rattle.ir_lex.specs.Names.{sigil_name}
 use Rattle.ir_lex.specs.Decimal.{count_of}
 use Rattle.ir_lex.specs.Parts.{SpellsAlign}
-use Rattle.ir_lex.specs.Rows.{Row, does, SpellsSetting, SpellsRow, reserving}
+use Rattle.ir_lex.specs.Rows.{does, SpellsSetting, SpellsRow, reserving}
 use Rattle.ir_lex.specs.declared.token.TokenKind.TheVariants.{Number, Local}
 use Rattle.ir_lex.proofs.TypeLaws.{type_at_front, cons_head, cons_tail, same_value}
 

@@ -1,13 +1,13 @@
 -- A token list spells at most one type, and where a type ends is settled by its tokens.
-use Rattle.std.proofs.Common.{◌≡◌, ℕ, List, [], ◌∷◌, ◌++◌, refl, sym, ◌∙◌, ap, subst, append_assoc, arith}
+use Rattle.std.proofs.Common.{◌≡◌, ℕ, List, [], ◌∷◌, ◌++◌, refl, sym, ◌∙◌, ap, append_assoc, arith}
 use Rattle.std.specs.Prelude.{Option, Some, None, codes, if◌then◌else◌, ◌==◌, slice_index}
 use Rattle.ir_ast.specs.Plain.{Ty, Tys, nothing, integer, pointer, array, structure, packed, named, opaque, no_types, type_and}
-use Rattle.ir_lex.specs.Tok.{Tok, word, mark, IsLocal}
+use Rattle.ir_lex.specs.Tok.{Tok, word, mark}
 use Rattle.ir_lex.specs.Decimal.{width_of, count_of}
 use Rattle.ir_lex.specs.Names.{sigil_name}
 use Rattle.ir_lex.specs.TypeSpelling.{Spells, SpellsParts, SpellsMore}
 use Rattle.ir_lex.specs.declared.token.TokenKind.{TokenKind}
-use Rattle.ir_lex.specs.declared.token.TokenKind.TheVariants.{Word, Number, Quoted, Local, Global, Metadata, Attribute, Mark}
+use Rattle.ir_lex.specs.declared.token.TokenKind.TheVariants.{Word, Number, Local, Mark}
 
 -- which production a first token belongs to
 abbrev mark_class : List ℕ → ℕ

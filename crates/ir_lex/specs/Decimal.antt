@@ -1,7 +1,6 @@
 -- Numbers by their spelling.
-use Rattle.std.specs.Prelude.{◌≡◌, ℕ, ◌+◌, ◌-◌, ◌*◌, ◌^◌, Bool, true, false, not, ◌&&◌, ◌||◌, ◌==◌, nat_le, nat_lt, if◌then◌else◌, ℤ, pos, neg_ℤ, Option, Some, None, List, [], ◌∷◌, length, drop}
-use Rattle.std.specs.Char.{is_ascii_digit}
-use Rattle.ir_lex.specs.Bytes.{run, begins_with}
+use Rattle.std.specs.Prelude.{ℕ, ◌+◌, ◌-◌, ◌*◌, ◌^◌, Bool, true, false, not, ◌&&◌, nat_le, nat_lt, if◌then◌else◌, ℤ, pos, neg_ℤ, Option, Some, None, List, [], ◌∷◌, drop}
+use Rattle.ir_lex.specs.Bytes.{begins_with}
 use Rattle.ir_lex.specs.Drop.{are_digits}
 
 -- the number of the digits, behind those that were read

@@ -1,10 +1,10 @@
 -- The parts that productions are made of, what each stands for, and how it is spelled (LLVM Language Reference, "Instruction Reference").
-use Rattle.std.specs.Prelude.{◌≡◌, ℕ, ◌≤◌, Bool, true, false, ◌⊎◌, ℤ, Option, Some, None, List, [], ◌∷◌, ◌++◌, drop, codes, bytes_eq}
+use Rattle.std.specs.Prelude.{◌≡◌, ℕ, Bool, true, ◌⊎◌, ℤ, Option, Some, None, List, [], ◌∷◌, ◌++◌, drop, codes}
 use Rattle.ir_ast.specs.Plain.{Ty, integer, pointer, Val, local, Indices, no_indices, index_and}
 use Rattle.ir_ast.specs.declared.instr.Predicate.{Predicate}
 use Rattle.ir_ast.specs.declared.instr.Predicate.TheVariants.{Eq, Ne, Ugt, Uge, Ult, Ule, Sgt, Sge, Slt, Sle}
 use Rattle.ir_lex.specs.Tok.{Tok, word, mark, IsLocal, IsGlobal, IsLabel}
-use Rattle.ir_lex.specs.Decimal.{width_of, count_of}
+use Rattle.ir_lex.specs.Decimal.{count_of}
 use Rattle.ir_lex.specs.Drop.{are_digits}
 use Rattle.ir_lex.specs.TypeSpelling.{SpellsType, SpellsResult}
 use Rattle.ir_lex.specs.ValueSpelling.{IsOptional, IsNumber, SpellsOperand, HasIndices}

@@ -1,9 +1,8 @@
 -- The productions of a body, in one table: the word of the operation, the parts behind it, and the instruction that they make. A row
 -- makes none where its notes are broken.
-use Rattle.std.specs.Prelude.{◌≡◌, ℕ, Bool, true, false, not, ◌&&◌, ◌||◌, ◌==◌, nat_lt, nat_le, Option, Some, None, if◌then◌else◌, List, [], ◌∷◌, ◌++◌, codes, bytes_eq, Any}
-use Rattle.ir_ast.specs.Plain.{Ty, Tys, nothing, integer, pointer, array, structure, packed, named, opaque, no_types, type_and, Val, Form, form}
+use Rattle.std.specs.Prelude.{◌≡◌, ℕ, Bool, true, false, not, ◌&&◌, nat_lt, nat_le, Option, Some, None, if◌then◌else◌, List, [], ◌∷◌, ◌++◌, codes, Any}
+use Rattle.ir_ast.specs.Plain.{Ty, nothing, integer, pointer, form}
 use Rattle.ir_ast.specs.Program.{Act, binary, compare, select, convert, freeze, phi, slot, load, store, offset, call, extract, goto, branch, switch, give, unreachable}
-use Rattle.ir_ast.specs.declared.operand.Flags.{Flags}
 use Rattle.ir_ast.specs.declared.instr.BinaryKind.{BinaryKind}
 use Rattle.ir_ast.specs.declared.instr.BinaryKind.TheVariants.{Add, Sub, Mul, Shl, Udiv, Sdiv, Lshr, Ashr, Urem, Srem, And, Xor, Or}
 use Rattle.ir_ast.specs.declared.instr.Predicate.{Predicate}

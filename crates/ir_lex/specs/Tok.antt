@@ -1,9 +1,9 @@
 -- What a production spells: tokens without their lines.
 use Rattle.std.specs.Prelude.{◌≡◌, ℕ, List, [], ◌∷◌, map, codes}
 use Rattle.ir_lex.specs.Lexeme.{Lexeme}
-use Rattle.ir_lex.specs.Names.{sigil_name, plain_name}
+use Rattle.ir_lex.specs.Names.{sigil_name}
 use Rattle.ir_lex.specs.declared.token.TokenKind.{TokenKind}
-use Rattle.ir_lex.specs.declared.token.TokenKind.TheVariants.{Word, Number, Quoted, Local, Global, Metadata, Attribute, Mark}
+use Rattle.ir_lex.specs.declared.token.TokenKind.TheVariants.{Word, Local, Global, Mark}
 
 abbrev pub Tok : Type 0
 Tok = TokenKind × List ℕ

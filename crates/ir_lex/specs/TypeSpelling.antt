@@ -1,5 +1,5 @@
 -- How types are spelled (LLVM Language Reference, "Type System").
-use Rattle.std.specs.Prelude.{◌≡◌, ℕ, suc, ◌+◌, ◌≤◌, max, Some, List, [], ◌∷◌, ◌++◌, codes}
+use Rattle.std.specs.Prelude.{◌≡◌, ℕ, suc, ◌≤◌, max, Some, List, [], ◌∷◌, ◌++◌, codes}
 use Rattle.ir_ast.specs.Plain.{Ty, Tys, nothing, integer, pointer, array, structure, packed, named, opaque, no_types, type_and}
 use Rattle.ir_lex.specs.Tok.{Tok, word, mark, IsLocal}
 use Rattle.ir_lex.specs.Decimal.{width_of, count_of}

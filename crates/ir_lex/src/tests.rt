@@ -237,3 +237,130 @@ fn names_are_spelled_with_escapes_undone(rt: HostRuntime) -> Result<(), AllocErr
     assert!(rt; label.as_bytes() == b"ab".as_slice());
     Ok(())
 }
+
+/// The kernel of a call that duplicates a file descriptor, as clang writes it.
+const DUP: &[u8] = b"\
+; ModuleID = 'dup.c'\n\
+source_filename = \"dup.c\"\n\
+target datalayout = \"e-m:e-p270:32:32-p271:32:32-p272:64:64-i64:64-i128:128-f80:128-n8:16:32:64-S128\"\n\
+target triple = \"x86_64-unknown-linux-gnu\"\n\
+\n\
+%struct.proc = type { i32, [4 x i32] }\n\
+\n\
+@current = dso_local local_unnamed_addr global i32 0, align 4\n\
+@procs = dso_local local_unnamed_addr global [4 x %struct.proc] zeroinitializer, align 16\n\
+@file_refs = dso_local local_unnamed_addr global [4 x i32] zeroinitializer, align 16\n\
+\n\
+define dso_local i32 @sys_dup(i32 noundef %0, i32 noundef %1) local_unnamed_addr #0 {\n\
+\x20\x20%3 = load i32, ptr @current, align 4, !tbaa !5\n\
+\x20\x20%4 = icmp ult i32 %0, 4\n\
+\x20\x20%5 = icmp ult i32 %1, 4\n\
+\x20\x20%6 = and i1 %4, %5\n\
+\x20\x20br i1 %6, label %7, label %27\n\
+\n\
+7:                                                ; preds = %2\n\
+\x20\x20%8 = zext i32 %3 to i64\n\
+\x20\x20%9 = zext nneg i32 %0 to i64\n\
+\x20\x20%10 = getelementptr inbounds [4 x %struct.proc], ptr @procs, i64 0, i64 %8, i32 1, i64 %9\n\
+\x20\x20%11 = load i32, ptr %10, align 4, !tbaa !5\n\
+\x20\x20%12 = add i32 %11, -1\n\
+\x20\x20%13 = icmp ult i32 %12, 4\n\
+\x20\x20br i1 %13, label %14, label %27\n\
+\n\
+14:                                               ; preds = %7\n\
+\x20\x20%15 = zext nneg i32 %1 to i64\n\
+\x20\x20%16 = getelementptr inbounds [4 x %struct.proc], ptr @procs, i64 0, i64 %8, i32 1, i64 %15\n\
+\x20\x20%17 = load i32, ptr %16, align 4, !tbaa !5\n\
+\x20\x20%18 = icmp eq i32 %17, 0\n\
+\x20\x20br i1 %18, label %19, label %27\n\
+\n\
+19:                                               ; preds = %14\n\
+\x20\x20store i32 %11, ptr %16, align 4, !tbaa !5\n\
+\x20\x20%20 = getelementptr inbounds [4 x %struct.proc], ptr @procs, i64 0, i64 %8\n\
+\x20\x20%21 = load i32, ptr %20, align 4, !tbaa !5\n\
+\x20\x20%22 = add i32 %21, 1\n\
+\x20\x20store i32 %22, ptr %20, align 4, !tbaa !5\n\
+\x20\x20%23 = zext nneg i32 %12 to i64\n\
+\x20\x20%24 = getelementptr inbounds [4 x i32], ptr @file_refs, i64 0, i64 %23\n\
+\x20\x20%25 = load i32, ptr %24, align 4, !tbaa !5\n\
+\x20\x20%26 = add i32 %25, 1\n\
+\x20\x20store i32 %26, ptr %24, align 4, !tbaa !5\n\
+\x20\x20br label %27\n\
+\n\
+27:                                               ; preds = %19, %14, %7, %2\n\
+\x20\x20%28 = phi i32 [ 0, %19 ], [ -9, %14 ], [ -9, %7 ], [ -9, %2 ]\n\
+\x20\x20ret i32 %28\n\
+}\n\
+\n\
+attributes #0 = { nounwind \"frame-pointer\"=\"none\" }\n\
+\n\
+!llvm.module.flags = !{!0}\n\
+!0 = !{i32 1, !\"wchar_size\", i32 4}\n\
+!5 = !{!6, !6, i64 0}\n\
+!6 = !{!\"int\", !7, i64 0}\n\
+!7 = !{!\"omnipotent char\", !8, i64 0}\n\
+!8 = !{!\"Simple C/C++ TBAA\"}\n\
+";
+
+/// What remains of each of its items, behind the last digit of its line.
+const DUP_ITEMS: &[u8] = b"\
+2+ dropped\n\
+3+ target datalayout = \"e-m:e-p270:32:32-p271:32:32-p272:64:64-i64:64-i128:128-f80:128-n8:16:32:64-S128\"\n\
+4+ dropped\n\
+6+ %struct.proc = type { i32 , [ 4 x i32 ] }\n\
+8+ @current = global i32 0 , align 4\n\
+9+ @procs = global [ 4 x %struct.proc ] zeroinitializer , align 16\n\
+0+ @file_refs = global [ 4 x i32 ] zeroinitializer , align 16\n\
+2+ define i32 @sys_dup ( i32 %0 , i32 %1 ) {\n\
+3+ %3 = load i32 , ptr @current , align 4\n\
+4+ %4 = icmp ult i32 %0 , 4\n\
+5+ %5 = icmp ult i32 %1 , 4\n\
+6+ %6 = and i1 %4 , %5\n\
+7+ br i1 %6 , label %7 , label %27\n\
+9+ 7 :\n\
+0+ %8 = zext i32 %3 to i64\n\
+1+ %9 = zext nneg i32 %0 to i64\n\
+2+ %10 = getelementptr inbounds [ 4 x %struct.proc ] , ptr @procs , i64 0 , i64 %8 , i32 1 , i64 %9\n\
+3+ %11 = load i32 , ptr %10 , align 4\n\
+4+ %12 = add i32 %11 , -1\n\
+5+ %13 = icmp ult i32 %12 , 4\n\
+6+ br i1 %13 , label %14 , label %27\n\
+8+ 14 :\n\
+9+ %15 = zext nneg i32 %1 to i64\n\
+0+ %16 = getelementptr inbounds [ 4 x %struct.proc ] , ptr @procs , i64 0 , i64 %8 , i32 1 , i64 %15\n\
+1+ %17 = load i32 , ptr %16 , align 4\n\
+2+ %18 = icmp eq i32 %17 , 0\n\
+3+ br i1 %18 , label %19 , label %27\n\
+5+ 19 :\n\
+6+ store i32 %11 , ptr %16 , align 4\n\
+7+ %20 = getelementptr inbounds [ 4 x %struct.proc ] , ptr @procs , i64 0 , i64 %8\n\
+8+ %21 = load i32 , ptr %20 , align 4\n\
+9+ %22 = add i32 %21 , 1\n\
+0+ store i32 %22 , ptr %20 , align 4\n\
+1+ %23 = zext nneg i32 %12 to i64\n\
+2+ %24 = getelementptr inbounds [ 4 x i32 ] , ptr @file_refs , i64 0 , i64 %23\n\
+3+ %25 = load i32 , ptr %24 , align 4\n\
+4+ %26 = add i32 %25 , 1\n\
+5+ store i32 %26 , ptr %24 , align 4\n\
+6+ br label %27\n\
+8+ 27 :\n\
+9+ %28 = phi i32 [ 0 , %19 ] , [ -9 , %14 ] , [ -9 , %7 ] , [ -9 , %2 ]\n\
+0+ ret i32 %28\n\
+1+ }\n\
+3+ dropped\n\
+5+ dropped\n\
+6+ dropped\n\
+7+ dropped\n\
+8+ dropped\n\
+9+ dropped\n\
+0+ dropped\n\
+";
+
+#[test]
+fn a_kernel_of_clang_is_cut_into_items(rt: HostRuntime) -> Result<(), AllocError> {
+    let text = DUP;
+    assert!(rt; text.len() < 10000);
+    let shown = shown_items(rt.alloc(), text)?;
+    assert!(rt; shown.as_slice() == DUP_ITEMS);
+    Ok(())
+}

@@ -1,7 +1,7 @@
 -- What holds of a state, and stays so behind an item.
-use Rattle.std.proofs.Common.{◌≡◌, ℕ, Bool, true, false, cond, not, ◌||◌, Option, Some, None, Result, Ok, Err, List, [], ◌∷◌, refl, sym, ◌∙◌, ap, subst}
+use Rattle.std.proofs.Common.{◌≡◌, ℕ, Bool, true, false, cond, not, ◌||◌, Option, Some, None, Ok, Err, List, [], ◌∷◌, refl, sym, ◌∙◌, ap, subst}
 use Rattle.ir_lex.specs.Drop.{is_dropped_item}
-use Rattle.ir_ast.specs.Program.{Act, InstrView, BlockView, FunctionView, RangeView, LineView, TypeView, ModuleView}
+use Rattle.ir_ast.specs.Program.{Act, InstrView, BlockView, FunctionView, RangeView, ModuleView}
 use Rattle.ir_ast.specs.declared.fault.KernelReason.{KernelReason}
 use Rattle.ir_ast.specs.declared.fault.KernelReason.TheVariants.{K2, K4}
 use Rattle.ir_lex.specs.Cut.{Cut}
@@ -9,7 +9,7 @@ use Rattle.ir_lex.specs.Items.{Top, layout_item, type_item, global_item, define_
 use Rattle.ir_read.specs.State.{BodyState, State, is_inside, outside, inside}
 use Rattle.ir_read.specs.Ahead.{is_close, holds_close, begins_unlabelled}
 use Rattle.ir_read.specs.Reads.{Reading, passed, ranged, top_of, inner_of, refused, Reads}
-use Rattle.ir_read.specs.Steps.{Out, is_symbol, is_end, with_entry, then_outside, ranges_in, then_whole, then_inside, then_closed, with_head, begun, begun_by, scope_of, first_block, labelled, label_in, with_name, instr_in, instr_at, with_result, grown_body, closed_at, after_inner, after_top, after_reading}
+use Rattle.ir_read.specs.Steps.{Out, is_symbol, is_end, with_entry, then_outside, ranges_in, then_whole, then_inside, then_closed, begun, scope_of, first_block, labelled, label_in, with_name, instr_in, instr_at, with_result, grown_body, closed_at, after_inner, after_top, after_reading}
 use Rattle.ir_read.specs.Spelling.{Leads, Passes}
 use Rattle.ir_read.specs.Answers.{IsNew, IsNewBody, IsPending, IsPendingBody}
 use Rattle.ir_read.proofs.Closing.{close_is, dropped_open}

@@ -1,3 +1,4 @@
+pub mod Begun
 pub mod Views
 pub mod Readings
 pub mod Passing

@@ -1,16 +1,13 @@
 -- A text spells at most one module, and has at most one fault; it never has both.
-use Rattle.std.proofs.Common.{◌≡◌, ℕ, Bool, true, false, ◌⊎◌, inl, inr, Option, Some, None, Result, Ok, Err, List, [], ◌∷◌, refl, sym, ◌∙◌, ap, subst}
-use Rattle.std.specs.Prelude.{ℤ}
-use Rattle.ir_ast.specs.Plain.{Ty}
+use Rattle.std.proofs.Common.{◌≡◌, ℕ, Bool, true, false, ◌⊎◌, inl, inr, Result, Ok, Err, List, [], ◌∷◌, refl, sym, ◌∙◌, ap, subst}
 use Rattle.ir_ast.specs.Program.{ModuleView}
 use Rattle.ir_ast.specs.declared.fault.KernelReason.{KernelReason}
-use Rattle.ir_ast.specs.declared.fault.KernelReason.TheVariants.{K1, K2, K3, K4}
+use Rattle.ir_ast.specs.declared.fault.KernelReason.TheVariants.{K1, K2, K3, K4, K9}
 use Rattle.ir_lex.specs.Lexeme.{Lexeme}
-use Rattle.ir_lex.specs.Lex.{lex}
 use Rattle.ir_lex.specs.Cut.{Cut, cut}
 use Rattle.ir_lex.specs.Drop.{is_dropped_item, remaining}
-use Rattle.ir_lex.specs.Tok.{Tok, toks}
-use Rattle.ir_lex.specs.Items.{Top, Inner, SpellsInner, ReadsTop, ReadsInner, SpellsRangeItem, holds_left_out}
+use Rattle.ir_lex.specs.Tok.{toks}
+use Rattle.ir_lex.specs.Items.{Top, Inner, ReadsTop, ReadsInner, holds_left_out}
 use Rattle.ir_top.proofs.TopLaws.{one_read}
 use Rattle.ir_top.proofs.RangeLaws.{one_range}
 use Rattle.ir_body.proofs.InnerLaws.{spelled_apart}
@@ -34,12 +31,14 @@ refuses_kept inside ts K1 h = absurd h
 refuses_kept inside ts K2 h = h.0
 refuses_kept inside ts K3 h = h.0
 refuses_kept inside ts K4 h = absurd h
+refuses_kept inside ts K9 h = absurd h
 
 refuses_place : (inside : Bool) (ts : List Lexeme) (reason : KernelReason) → Refuses inside ts reason → IsInPlace inside ts → ⊥
 refuses_place inside ts K1 h = absurd h
 refuses_place inside ts K2 h = h.1
 refuses_place inside ts K3 h = h.1
 refuses_place inside ts K4 h = absurd h
+refuses_place inside ts K9 h = absurd h
 
 never_two : (inside : Bool) (ts : List Lexeme) → IsOutOfPlace inside ts ⊎ (holds_left_out (remaining ts) ≡ false) → (IsOutOfPlace inside ts → ⊥) → holds_left_out (remaining ts) ≡ true → ⊥
 never_two inside ts (inl is) other holds = other is
@@ -48,14 +47,17 @@ never_two inside ts (inr none) other holds = never_both (holds_left_out (remaini
 one_reason : (inside : Bool) (ts : List Lexeme) (a b : KernelReason) → Refuses inside ts a → Refuses inside ts b → a ≡ b
 one_reason inside ts K1 b h i = absurd h
 one_reason inside ts K4 b h i = absurd h
+one_reason inside ts K9 b h i = absurd h
 one_reason inside ts K2 K1 h i = absurd i
 one_reason inside ts K2 K2 h i = refl
 one_reason inside ts K2 K3 h i = absurd (never_two inside ts h.2 i.2 i.3)
 one_reason inside ts K2 K4 h i = absurd i
+one_reason inside ts K2 K9 h i = absurd i
 one_reason inside ts K3 K1 h i = absurd i
 one_reason inside ts K3 K2 h i = absurd (never_two inside ts i.2 h.2 h.3)
 one_reason inside ts K3 K3 h i = refl
 one_reason inside ts K3 K4 h i = absurd i
+one_reason inside ts K3 K9 h i = absurd i
 
 -- an item that is read as one kind of thing is read as no other
 clash : {A : Type 0} → (inside : Bool) (ts : List Lexeme) → is_dropped_item ts ≡ true → is_dropped_item ts ≡ false → A

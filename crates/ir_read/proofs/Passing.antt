@@ -1,5 +1,5 @@
 -- What comes of an item, from what it is read as.
-use Rattle.std.proofs.Common.{◌≡◌, ℕ, Bool, true, false, Option, Some, None, is_some, Result, Ok, Err, List, refl, sym, ◌∙◌, ap, subst}
+use Rattle.std.proofs.Common.{◌≡◌, Bool, true, false, Option, Some, None, is_some, Result, Ok, Err, List, refl}
 use Rattle.ir_lex.specs.Cut.{Cut}
 use Rattle.ir_read.specs.State.{State, is_inside}
 use Rattle.ir_read.specs.Reads.{Reading, Reads}

@@ -1,10 +1,10 @@
 -- What is read of an item at its place.
-use Rattle.std.proofs.Common.{◌≡◌, ℕ, Bool, true, false, ◌⊎◌, inl, inr, Option, Some, None, Result, Ok, Err, IfOk, List, refl, sym, ◌∙◌, ap, subst}
+use Rattle.std.proofs.Common.{◌≡◌, ℕ, Bool, true, false, inl, inr, Result, Ok, Err, IfOk, List}
 use Rattle.ir_ast.specs.declared.fault.KernelReason.TheVariants.{K2, K3}
 use Rattle.ir_lex.specs.Lexeme.{Lexeme}
 use Rattle.ir_lex.specs.Drop.{is_dropped_item, remaining}
 use Rattle.ir_lex.specs.Tok.{toks}
-use Rattle.ir_lex.specs.Items.{Top, Inner, label_item, instr_item, close_item, ReadsTop, ReadsInner, SpellsTop, holds_left_out}
+use Rattle.ir_lex.specs.Items.{Top, label_item, instr_item, close_item, SpellsTop, holds_left_out}
 use Rattle.ir_ast.specs.ProgramView.{view_op}
 use Rattle.ir_body.specs.declared.item.BodyItem.{BodyItem}
 use Rattle.ir_body.specs.declared.item.BodyItem.TheVariants.{Label, Instr, Close, Ignored}

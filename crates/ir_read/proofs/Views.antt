@@ -1,5 +1,5 @@
 -- What is added to the code's lists is added to the plain ones.
-use Rattle.std.proofs.Common.{◌≡◌, ◌≤◌, ◌<◌, ◌^◌, ◌+◌, ℕ, Bool, true, false, cond, ◌||◌, Option, Some, None, is_some, Result, Ok, Err, List, [], ◌∷◌, ◌++◌, map, length, length-append, refl, sym, ◌∙◌, ap, arith}
+use Rattle.std.proofs.Common.{◌≡◌, ◌≤◌, ◌<◌, ◌^◌, ◌+◌, ℕ, Bool, true, false, cond, ◌||◌, is_some, Result, Ok, Err, List, [], ◌∷◌, ◌++◌, map, length, length-append, refl, sym, ◌∙◌, ap, arith}
 use Rattle.std.specs.Prelude.{position, bytes_eq}
 use Rattle.ir_ast.specs.ProgramView.{view_entries, view_block, view_instr, view_global, view_function, view_type_entry, view_range}
 use Rattle.ir_ast.specs.Table.{names_of, place_of}

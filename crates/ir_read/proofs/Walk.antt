@@ -1,5 +1,5 @@
 -- The items of a text one by one: what is left gives what the whole gives.
-use Rattle.std.proofs.Common.{◌≡◌, ◌+◌, ◌<◌, ◌≤◌, ℕ, Bool, true, false, ◌⊎◌, inl, inr, Option, Some, None, Result, Ok, Err, List, [], ◌∷◌, length, drop, get_or, map, refl, sym, ◌∙◌, ap, subst, arith}
+use Rattle.std.proofs.Common.{◌≡◌, ◌+◌, ◌<◌, ◌≤◌, ℕ, inl, inr, Option, Some, None, Err, List, [], ◌∷◌, length, drop, get_or, refl, ap, subst}
 use Rattle.std.proofs.lemmas.List.{drop_more, drop_all}
 use Rattle.ir_ast.specs.Program.{ModuleView}
 use Rattle.ir_ast.specs.declared.fault.KernelReason.{KernelReason}

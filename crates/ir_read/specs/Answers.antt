@@ -1,5 +1,5 @@
 -- What a call that changes what it is lent answers.
-use Rattle.std.specs.Prelude.{◌≡◌, false, true, Bool, Option, Some, None, Result, Ok, Err, List}
+use Rattle.std.specs.Prelude.{◌≡◌, false, true, Option, Some, None, Result, Ok, Err, List}
 use Rattle.ir_ast.specs.declared.fault.KernelStop.{KernelStop}
 use Rattle.ir_ast.specs.declared.fault.KernelStop.TheVariants.{Refused as TextRefused, Memory as NoMemory}
 use Rattle.ir_read.specs.State.{State, BodyState, at_start}

@@ -1,10 +1,9 @@
 -- The module that a text spells, and the first item of it that fails (LLVM Language Reference, "High Level Structure").
-use Rattle.std.specs.Prelude.{◌≡◌, ℕ, Bool, true, false, ◌⊎◌, Option, Some, None, Result, Ok, Err, List, [], ◌∷◌}
+use Rattle.std.specs.Prelude.{◌≡◌, ℕ, Bool, true, false, ◌⊎◌, None, Result, Ok, Err, List, [], ◌∷◌}
 use Rattle.ir_ast.specs.Program.{ModuleView}
 use Rattle.ir_ast.specs.ProgramView.{view_module}
 use Rattle.ir_ast.specs.declared.fault.KernelStop.{KernelStop}
 use Rattle.ir_ast.specs.declared.fault.KernelStop.TheVariants.{Refused, Memory}
-use Rattle.ir_ast.specs.declared.fault.KernelFault.{KernelFault}
 use Rattle.ir_ast.specs.declared.fault.KernelReason.{KernelReason}
 use Rattle.ir_ast.specs.declared.fault.KernelReason.TheVariants.{K1, K2}
 use Rattle.ir_ast.specs.declared.module.Module.{Module}

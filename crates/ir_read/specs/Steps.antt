@@ -1,8 +1,8 @@
 -- What an item adds to what stands before it, or why it is refused there: `K2` where it is out of place, else `K4` where a name of it
 -- stands in its scope already.
-use Rattle.std.specs.Prelude.{ℕ, ◌+◌, Bool, true, false, not, ◌&&◌, ◌||◌, if◌then◌else◌, ℤ, Option, Some, None, is_some, Result, Ok, Err, List, [], ◌∷◌, ◌++◌, map, bytes_eq, decimal}
+use Rattle.std.specs.Prelude.{ℕ, Bool, true, false, not, ◌||◌, if◌then◌else◌, Option, Some, None, is_some, Result, Ok, Err, List, [], ◌∷◌, ◌++◌, map, bytes_eq, decimal}
 use Rattle.std.specs.List.{list_any}
-use Rattle.ir_ast.specs.Plain.{Ty, Ini}
+use Rattle.ir_ast.specs.Plain.{Ty}
 use Rattle.ir_ast.specs.Program.{Act, goto, branch, switch, give, unreachable, InstrView, BlockView, FunctionView, TypeView, GlobalView, RangeView, LineView, ModuleView}
 use Rattle.ir_ast.specs.Table.{place_of}
 use Rattle.ir_ast.specs.declared.fault.KernelReason.{KernelReason}

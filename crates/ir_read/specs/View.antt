@@ -1,11 +1,9 @@
 -- What the reader's own types mean, and what its calls answer.
-use Rattle.std.specs.Prelude.{◌≡◌, ℕ, ◌≤◌, ◌<◌, ◌^◌, true, Option, Some, None, option_map, Result, Ok, Err, List, length, map}
+use Rattle.std.specs.Prelude.{◌≡◌, ℕ, ◌≤◌, true, Option, option_map, Result, Ok, Err, List, length, map}
 use Rattle.ir_ast.specs.Program.{ModuleView}
 use Rattle.ir_ast.specs.ProgramView.{view_op, view_block, view_function, view_type_entry, view_global, view_range, view_line, view_entries}
-use Rattle.ir_ast.specs.declared.fault.KernelReason.{KernelReason}
 use Rattle.ir_ast.specs.declared.fault.KernelStop.{KernelStop}
 use Rattle.ir_ast.specs.declared.fault.KernelStop.TheVariants.{Refused as TextRefused, Memory as NoMemory}
-use Rattle.ir_ast.specs.declared.module.Module.{Module}
 use Rattle.ir_lex.specs.Lexeme.{Lexeme}
 use Rattle.ir_lex.specs.Items.{label_item, instr_item, close_item}
 use Rattle.ir_top.specs.TopView.{view_top, view_numbers}
@@ -54,13 +52,6 @@ pub record AreCounted (w : Whole) : Type 0 where
   pub globals : length w.globals ≤ w.count
   pub functions : length w.functions ≤ w.count
   pub ranges : length w.ranges ≤ w.count
-
--- no table of the module has 2^32 entries or more
-pub record IsSmall (m : Module) : Type 0 where
-  pub types : length m.types < 2 ^ 32
-  pub globals : length m.globals < 2 ^ 32
-  pub functions : length m.functions < 2 ^ 32
-  pub ranges : length m.ranges < 2 ^ 32
 
 -- the call answers what comes out, seen through this; memory may be refused at anything
 abbrev pub Gives : {A B : Type 0} → (A → B) → Result A Stop → Out B → Type 0

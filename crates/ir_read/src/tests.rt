@@ -1,7 +1,7 @@
 //! Texts made by hand from the rules, with the line and the reason of what fails first.
 
 ghost use Rattle.std.specs.Prelude.{◌<◌, ◌^◌, length};
-ghost use Rattle.ir_read.specs.View.{IsSmall};
+ghost use Rattle.ir_ast.specs.Small.{IsSmall};
 
 use super::*;
 use ir_ast::{Block, KernelFault, KernelReason, KernelStop, Module};
@@ -14,6 +14,7 @@ fn number(reason: KernelReason) -> u32 {
         KernelReason::K2 => 2,
         KernelReason::K3 => 3,
         KernelReason::K4 => 4,
+        KernelReason::K9 => 9,
     }
 }
 

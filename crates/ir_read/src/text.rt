@@ -3,11 +3,12 @@
 ghost use Rattle.std.specs.Prelude.{◌≡◌, ◌<◌, ◌^◌, length, IfOk, IfErr, ℕ};
 ghost use Rattle.ir_ast.specs.Program.{ModuleView};
 ghost use Rattle.ir_ast.specs.ProgramView.{view_module};
+ghost use Rattle.ir_ast.specs.Small.{IsSmall};
 ghost use Rattle.ir_ast.specs.declared.fault.KernelReason.{KernelReason};
 ghost use Rattle.ir_lex.specs.Cut.{cuts_of};
 ghost use Rattle.ir_read.specs.State.{at_start};
 ghost use Rattle.ir_read.specs.Spelling.{SpellsFrom, IsModuleText, IsStop, IsModule, IsFault, IsFaultyText};
-ghost use Rattle.ir_read.specs.View.{view_whole, stop_at, IsSmall};
+ghost use Rattle.ir_read.specs.View.{view_whole, stop_at};
 ghost use Rattle.ir_read.specs.Answers.{IsItemStop};
 
 use crate::body::Body;

@@ -4,7 +4,8 @@ ghost use Rattle.std.specs.Prelude.{◌≡◌, false, Ok, OnOk};
 ghost use Rattle.ir_ast.specs.ProgramView.{view_global, view_range, view_line, view_type_entry, view_function, view_module};
 ghost use Rattle.ir_read.specs.Steps as definition;
 ghost use Rattle.ir_read.specs.State.{no_items};
-ghost use Rattle.ir_read.specs.View.{AreCounted, IsSmall, view_whole};
+ghost use Rattle.ir_ast.specs.Small.{IsSmall};
+ghost use Rattle.ir_read.specs.View.{AreCounted, view_whole};
 ghost use Rattle.ir_read.specs.Answers.{Becomes};
 
 use crate::stop::Stop;

@@ -1,4 +1,4 @@
-use Rattle.std.proofs.Common.{◌≡◌, ◌++◌, [], subst, drop, get_or, sym, ◌∙◌, ap, refl, arith}
+use Rattle.std.proofs.Common.{◌≡◌, ◌++◌, [], subst, drop, get_or, sym, refl, arith}
 use Rattle.ir_lex.specs.Lexeme.{lexemes}
 use Rattle.ir_lex.specs.Cut.{cuts_of, cut_from, cut}
 use Rattle.ir_lex.specs.declared.token.Token.{Token}

@@ -1,4 +1,4 @@
-use Rattle.std.proofs.Common.{rules, ◌≡◌, Bool, true, false, not, refl, sym, ◌∙◌, subst}
+use Rattle.std.proofs.Common.{rules, ◌∙◌, subst}
 use Rattle.ir_lex.specs.Cut.{cut_of, cuts_of}
 use Rattle.ir_read.specs.Reads.{Reads}
 use Rattle.ir_read.specs.View.{state_of, view_reading}

@@ -3,11 +3,9 @@ use Rattle.ir_lex.specs.Cut.{cut_of, cuts_of}
 use Rattle.ir_lex.specs.declared.cut.Item.{Item}
 use Rattle.ir_read.specs.State.{at_start}
 use Rattle.ir_read.specs.Spelling.{Leads, SpellsFrom, Passes}
-use Rattle.ir_read.specs.View.{state_of, stop_at}
+use Rattle.ir_read.specs.View.{state_of}
 use Rattle.ir_read.specs.Answers.{IsItemStop, Comes}
-use Rattle.ir_read.specs.declared.stop.Stop.{Stop}
-use Rattle.std.specs.Prelude.{Result, Err, Option}
-use Rattle.ir_read.specs.declared.body.Body.{Body}
+use Rattle.std.specs.Prelude.{Err}
 use Rattle.ir_read.proofs.Walk.{on_leads, on_stop, on_end, cuts_step, cuts_end}
 use Rattle.ir_read.proofs.text.read_items.Goals as goal
 
