@@ -3,7 +3,6 @@
 use Rattle.std.proofs.Common.{ℕ, zero, suc, ◌+◌, ◌<◌, ◌≤◌, ◌≡◌, ◌⊎◌, inl, inr, List, [], ◌∷◌, ◌++◌, Option, None, Some, IsSome, unwrap_or, length, slice_get, refl, ap, sym, ◌∙◌, subst, arith}
 use Rattle.std.specs.List.{AllZip}
 use Rattle.std.proofs.lemmas.List.{append_assoc, append-nil}
-use Rattle.ir_thin.specs.Spelling.{IsKernelText}
 use Rattle.hk_io.specs.Held.{Files, held_under}
 use Rattle.ir_thin.specs.declared.tree.Kernel.{Kernel}
 use Rattle.spec_thin.specs.declared.tree.Spec.{Spec}
@@ -18,6 +17,7 @@ use Rattle.hk_decide.specs.Right.{IsRight}
 use Rattle.hk_verify.specs.declared.answer.Answer.{Answer}
 use Rattle.hk_verify.specs.declared.answer.TopFault.{TopFault}
 use Rattle.hk_verify.specs.declared.answer.TopFault.TheVariants.{Usage, Read, Long, Kernel as OfKernel, Spec as OfSpec, Cnf as OfCnf, Wide, Memory, Write}
+use Rattle.hk_verify.specs.Kernels.{IsKernelText}
 use Rattle.hk_verify.specs.Words.{IsVerify, HasNoForm}
 use Rattle.hk_verify.specs.Inputs.{ShelfView, IsLoaded, AreRead, kernel_limit, spec_limit}
 use Rattle.hk_verify.specs.Verdicts.{AreRight, AreCut}

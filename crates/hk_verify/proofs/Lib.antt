@@ -1,4 +1,5 @@
 mod Certainty
 mod Forms
+mod KernelReading
 mod Pushes
 mod Whole

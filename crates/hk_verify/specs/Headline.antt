@@ -6,7 +6,6 @@ use Rattle.hk_io.specs.Faults.{Rose}
 use Rattle.hk_io.specs.Held.{Files, held_under}
 use Rattle.hk_io.specs.Shown.{shown_with}
 use Rattle.ir_thin.specs.declared.tree.Kernel.{Kernel}
-use Rattle.ir_thin.specs.Spelling.{IsKernelText}
 use Rattle.spec_thin.specs.declared.tree.Spec.{Spec}
 use Rattle.spec_thin.specs.declared.tree.Transition.{Transition}
 use Rattle.spec_text.specs.Spelling.{IsSpecText}
@@ -18,6 +17,7 @@ use Rattle.hk_report.specs.declared.verdict.InitVerdict.TheVariants.{Holds}
 use Rattle.hk_report.specs.Report.{report_text}
 use Rattle.hk_verify.specs.declared.answer.Answer.{Answer}
 use Rattle.hk_verify.specs.declared.answer.TopFault.TheVariants.{Read, Long, Kernel as OfKernel, Spec as OfSpec, Wide, Memory, Write}
+use Rattle.hk_verify.specs.Kernels.{IsKernelText}
 use Rattle.hk_verify.specs.Words.{IsVerify}
 
 -- The shelf holds these texts under the two words, they spell this kernel and this specification, and this handler is

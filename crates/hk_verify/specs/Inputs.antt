@@ -5,13 +5,13 @@ use Rattle.hk_io.specs.Faults.{Rose}
 use Rattle.hk_io.specs.Held.{Files, held_under}
 use Rattle.ir_ast.specs.declared.fault.KernelFault.{KernelFault}
 use Rattle.ir_thin.specs.declared.tree.Kernel.{Kernel}
-use Rattle.ir_thin.specs.Spelling.{IsKernelText, IsFault as IsRefusedKernel}
 use Rattle.spec_text.specs.declared.fault.SpecFault.{SpecFault}
 use Rattle.spec_thin.specs.declared.tree.Spec.{Spec}
 use Rattle.spec_thin.specs.declared.tree.Transition.{Transition}
 use Rattle.spec_text.specs.Spelling.{IsSpecText}
 use Rattle.spec_text.specs.Refusing.{IsRefused as IsRefusedSpec}
 use Rattle.hk_replay.specs.Violation.{case_bits}
+use Rattle.hk_verify.specs.Kernels.{IsTheKernel, IsRefusedKernel}
 use Rattle.hk_verify.specs.declared.inputs.Inputs.{Inputs}
 use Rattle.hk_verify.specs.declared.answer.TopFault.{TopFault}
 use Rattle.hk_verify.specs.declared.answer.TopFault.TheVariants.{Usage, Read, Long, Kernel as OfKernel, Spec as OfSpec, Cnf as OfCnf, Wide, Memory, Write}
@@ -68,11 +68,6 @@ abbrev pub IsLoadingFault : ShelfView → List ℕ → ℕ → List ℕ → ℕ 
 IsLoadingFault shelf first first_limit second second_limit fault =
     IsLoadFault shelf.held shelf.before shelf.after 1 first first_limit fault ⊎ IsSecondLoadFault shelf first first_limit second second_limit fault
 
--- The kernel that a text spells: this one, and no other.
-pub record IsTheKernel (text : List ℕ) (kernel : Kernel) : Type 0 where
-  pub spelled : IsKernelText text kernel
-  pub only : (other : Kernel) → IsKernelText text other → other ≡ kernel
-
 -- The specification that a text spells for a kernel: this one, and no other.
 pub record IsTheSpec (kernel : Kernel) (text : List ℕ) (spec : Spec) : Type 0 where
   pub spelled : IsSpecText kernel text spec
@@ -96,7 +91,7 @@ pub record IsFirstWide (kernel : Kernel) (transitions : List Transition) (h : �
 abbrev pub AreNarrow : Kernel → List Transition → Type 0
 AreNarrow kernel transitions = All (λ t. case_bits kernel t ≤ 16) transitions
 
--- The kernel text is no thin kernel.
+-- The kernel text spells no thin kernel.
 pub record RefusesKernel (held : Option Files) (kernel_name spec_name : List ℕ) (fault : KernelFault) : Type 0 where
   pub kernel_text : List ℕ
   pub spec_text : List ℕ

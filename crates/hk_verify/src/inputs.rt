@@ -2,12 +2,14 @@
 
 ghost use Rattle.std.specs.Prelude.{◌≡◌, ◌≤◌, ◌<◌, ◌^◌, [], IfOk, IfErr, length};
 ghost use Rattle.hk_verify.specs.Inputs.{ShelfView, AreRead, HasCause, IsSmall, ReadsTo};
+ghost use Rattle.hk_verify.specs.Kernels.{IsTheKernel, IsKernelStop};
 
 use crate::answer::TopFault;
 use crate::load::load_both;
 use hk_io::Shelf;
 use ir_ast::KernelStop;
-use ir_thin::read_kernel;
+use ir_meaning::Kernel as Meaning;
+use ir_read::read_module;
 use ir_thin::tree::Kernel;
 use spec_text::{SpecStop, read_spec};
 use spec_thin::tree::Spec;
@@ -24,6 +26,28 @@ const SPEC_LIMIT: u32 = 1_048_576;
 pub struct Inputs {
     pub kernel: Kernel,
     pub spec: Spec,
+}
+
+/// The thin kernel that stands for a kernel.
+fn thin_of(kernel: Meaning) -> Kernel
+    ensures { result ≡ kernel.thin }
+{
+    kernel.thin
+}
+
+/// The kernel that a text spells.
+fn read_kernel(alloc: Global, text: &[u8]) -> Result<Kernel, KernelStop>
+    requires { length text.now < 2 ^ 31 }
+    ensures found { IfOk result (IsTheKernel text.now) }
+    ensures fault { IfErr result (IsKernelStop text.now) }
+{
+    match read_module(alloc, text) {
+        Ok(read) => match Meaning::new(alloc, read) {
+            Ok(kernel) => Ok(thin_of(kernel)),
+            Err(stop) => Err(stop),
+        },
+        Err(stop) => Err(stop),
+    }
 }
 
 /// Reads both texts, the kernel's first.

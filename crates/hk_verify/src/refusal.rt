@@ -43,6 +43,7 @@ fn kernel_reason(reason: KernelReason) -> &'static [u8]
         KernelReason::K2 => b"K2",
         KernelReason::K3 => b"K3",
         KernelReason::K4 => b"K4",
+        KernelReason::K9 => b"K9",
     }
 }
 

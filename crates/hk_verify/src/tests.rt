@@ -20,6 +20,10 @@ const FLIPPED: &str =
 const MARKED: &str =
     "@ticks = global i8 0\ndefine void @tick() {\n  %v = load i8, ptr @ticks\n  %n = add nsw i8 %v, 1\n  store i8 %n, ptr @ticks\n  ret void\n}\n";
 
+/// The counter with words that are read and carry no meaning.
+const DECORATED: &str =
+    "source_filename = \"tick.c\"\n@ticks = dso_local local_unnamed_addr global i8 0\n\ndefine dso_local void @tick() local_unnamed_addr #0 {\n  %1 = load i8, ptr @ticks, !tbaa !5\n  %2 = add i8 %1, 1 ; one more\n  store i8 %2, ptr @ticks, !tbaa !5\n  ret void\n}\n\nattributes #0 = { nounwind }\n!5 = !{!6, !6, i64 0}\n";
+
 const THREE: &str =
     "@b = global i8 0\n@c = global i8 0\n@ticks = global i8 0\ndefine void @tick() {\n  %v = load i8, ptr @ticks\n  %n = add i8 %v, 1\n  store i8 %n, ptr @ticks\n  ret void\n}\n";
 
@@ -113,9 +117,16 @@ fn handlers_are_accepted_rejected_and_refused(rt: HostRuntime) -> Result<(), Fai
         Row {
             kernel: MARKED,
             spec: COUNTS,
-            begins: "kernel ",
-            ends: ": K2\n",
+            begins: "kernel 4: K9\n",
+            ends: "",
             status: 3,
+        },
+        Row {
+            kernel: DECORATED,
+            spec: COUNTS,
+            begins: "init holds\naccept tick\n",
+            ends: "",
+            status: 0,
         },
         Row {
             kernel: COUNTER,
@@ -150,6 +161,61 @@ fn handlers_are_accepted_rejected_and_refused(rt: HostRuntime) -> Result<(), Fai
         assert_eq!(rt; answer.status, row.status);
         assert!(rt; sink.bytes().starts_with(row.begins.as_bytes()));
         assert!(rt; sink.bytes().ends_with(row.ends.as_bytes()));
+    }
+    Ok(())
+}
+
+#[test]
+fn kernels_are_refused_at_what_fails_first(rt: HostRuntime) -> Result<(), Fail> {
+    let table = [
+        ("@a = global i8 0 ~\n", "kernel 1: K1\n"),
+        ("@a = global i8\n", "kernel 1: K2\n"),
+        (
+            "@ticks = global i8 0\ndefine void @tick() {\n  %v = load i8, ptr @ticks\n",
+            "kernel 2: K2\n",
+        ),
+        ("@p = thread_local global i8 0\n", "kernel 1: K3\n"),
+        ("@a = global i8 0\n@a = global i8 0\n", "kernel 2: K4\n"),
+        (
+            "@a = global i8 0\n@b = global i32 0\n@c = global i8 ~",
+            "kernel 3: K1\n",
+        ),
+        (
+            "@a = global i8 0\n@b = global i32 0\n@a = global i8 0\n",
+            "kernel 3: K4\n",
+        ),
+        (
+            "@a = global i8 0\n@b = global i32 0\n@c = constant i8 0\n",
+            "kernel 2: K9\n",
+        ),
+        (
+            "target datalayout = \"e\"\n@b = global i32 0\n",
+            "kernel 1: K9\n",
+        ),
+        (
+            "define void @f() {\nentry:\n  ret void\n}\n",
+            "kernel 2: K9\n",
+        ),
+        (
+            "define void @f() {\n  br label %a\na:\n  ret void\n}\n",
+            "kernel 2: K9\n",
+        ),
+        (
+            "define void @f() {\n  %v = load i8, ptr @late\n  ret void\n}\n@late = global i8 0\n",
+            "kernel 2: K9\n",
+        ),
+        ("declare void @f()\n", "kernel 1: K9\n"),
+        ("@a = global i8 256\n", "kernel 1: K9\n"),
+        (
+            "@a = global i8 0\ndefine void @f() {\n  store i8 %x, ptr @a\n  ret void\n}\n",
+            "kernel 3: K9\n",
+        ),
+    ];
+    for (kernel, shown) in table {
+        let none = Vec::new(rt.alloc());
+        let (answer, sink) = verify(&rt, kernel, "", none, Vec::new(rt.alloc()))?;
+        assert_eq!(rt; answer.status, 3);
+        assert!(rt; sink.bytes() == shown.as_bytes());
     }
     Ok(())
 }

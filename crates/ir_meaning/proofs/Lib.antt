@@ -1,1 +1,4 @@
 mod StepLemmas
+pub mod Places
+pub mod Each
+pub mod Functions

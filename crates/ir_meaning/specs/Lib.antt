@@ -1,1 +1,4 @@
 pub mod Machine
+pub mod Thin
+pub mod Answers
+pub mod View

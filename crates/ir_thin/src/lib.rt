@@ -1,20 +1,7 @@
-//! Thin kernels: the kernel texts of straight-line functions over `i8` globals.
+//! Thin kernels: straight-line functions over `i8` globals.
 //!
-//! In comes the text of a kernel, out goes its tree with every name resolved, or `K2` with a line of the text. The
-//! spelling of a thin kernel is a definition in the printing direction; the reader here meets it exactly. This crate
-//! gives way to the readers of the whole kernel grammar.
+//! A tree with every name resolved, and nothing else: what the machine steps through and what specifications speak of,
+//! until kernels of every kind have their meaning. It is made from the tree of a whole text in `ir_meaning`.
 #![tactic(auto)]
 
-mod define;
-mod kernel;
-mod line;
-mod names;
-mod reader;
-mod row;
-mod text;
 pub mod tree;
-
-pub use kernel::read_kernel;
-
-#[cfg(test)]
-mod tests;

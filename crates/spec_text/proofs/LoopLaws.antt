@@ -6,7 +6,7 @@ use Rattle.spec_text.specs.Front.{with_front}
 use Rattle.spec_text.specs.Lexing.{◌>>=◌}
 use Rattle.spec_text.specs.Reading.{until, is_empty, begins_equiv, begins_return, is_closed, is_def_end}
 use Rattle.spec_text.proofs.Steps.{front_push, front_end}
-use Rattle.spec_text.proofs.Until.{until_skip, until_stop, until_end, until_none, until_item}
+use Rattle.spec_text.proofs.Until.{until_stop, until_end, until_none, until_item}
 
 pub length-map : {X Y : Type 0} (f : X → Y) (xs : List X) → length (map f xs) ≡ length xs
 length-map f [] = refl

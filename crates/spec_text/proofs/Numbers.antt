@@ -4,7 +4,7 @@ use Rattle.std.proofs.Math.Nat.{le-mul_of_pos_right}
 use Rattle.std.proofs.Math.Seq.{drop-cons}
 use Rattle.std.proofs.lemmas.Grind.{common_steps}
 use Rattle.spec_text.specs.Rows.{small, value_from, digit_value}
-use Rattle.std.proofs.Common.{◌∙◌, sym, ap, suc}
+use Rattle.std.proofs.Common.{◌∙◌, ap, suc}
 
 -- a number over 255 stays so
 pub value_over : (base v : ℕ) (ds : List ℕ) → 1 ≤ base → 256 ≤ v → small (value_from base v ds) ≡ None

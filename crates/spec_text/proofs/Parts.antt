@@ -1,15 +1,14 @@
 -- The parts of a specification, one behind the other.
-use Rattle.std.proofs.Common.{◌≡◌, ℕ, ◌+◌, ◌-◌, ◌≤◌, get_or, Bool, true, false, List, [], ◌∷◌, length, drop, take, map, arith, Option, Some, None, is_some, refl, ap, ◌∙◌, sym, if◌then◌else◌}
+use Rattle.std.proofs.Common.{◌≡◌, ℕ, ◌+◌, ◌-◌, ◌≤◌, get_or, Bool, true, false, List, [], ◌∷◌, length, drop, take, arith, Some, None, is_some, refl, ap, ◌∙◌, sym, if◌then◌else◌}
 use Rattle.std.proofs.lemmas.List.{drop-drop}
 use Rattle.std.specs.List.{drop-map}
 use Rattle.ir_thin.specs.declared.tree.Kernel.{Kernel}
-use Rattle.spec_thin.specs.declared.tree.Spec.{Spec}
 use Rattle.spec_thin.specs.declared.tree.Field.{Field}
 use Rattle.spec_thin.specs.declared.tree.Transition.{Transition}
 use Rattle.spec_text.specs.Lexing.{◌>>=◌, Word, Line}
 use Rattle.spec_text.specs.Spelling.{are_distinct, fields_for}
 use Rattle.spec_text.specs.Reading.{fields_of, of_first, equations_of, distinct, transitions_of, top_names, checked, classed_of, def_of, copy_of, writes_of, made, transition_at}
-use Rattle.spec_text.specs.Parts.{fielded, copied}
+use Rattle.spec_text.specs.Parts.{moved, fielded, written, copied}
 use Rattle.spec_text.specs.Texts.{texts}
 use Rattle.spec_text.specs.Views.{said, words_said}
 use Rattle.spec_text.proofs.LoopLaws.{length-map, rest_all}
@@ -44,7 +43,7 @@ behind_line n xs =
 -- the specification, by the fields that were found
 pub classed_at : (kernel : Kernel) (class : Word) (lines : List Line) (names : List Word) → fields_of lines ≡ Some names
     → classed_of kernel class lines ≡ fielded kernel class names (drop (length names + 1) lines)
-unfolding classed_of fielded
+unfolding classed_of fielded moved
 classed_at kernel class lines names e =
     ap (λ o. o >>= λ names. of_first equations_of (drop (length names + 1) lines) >>= λ equations. fields_for kernel equations names >>= λ fields.
     distinct names >>= λ scope. transitions_of kernel scope (drop (length names + 2) lines) >>= λ ts. checked class fields ts) e
@@ -66,7 +65,7 @@ behind_fields lines names n e = ap (λ k. drop (k + 1) (said lines)) (length-map
 -- the transition at the front, by its name and its parameters
 pub transition_by : (kernel : Kernel) (fields : List Word) (line : Line) (lines : List Line) (n : Word) (parameters : List Word) → def_of line ≡ Some (n, parameters)
     → transition_at kernel fields (line ∷ lines) ≡ copied kernel fields n parameters lines
-unfolding transition_at copied
+unfolding transition_at copied written
 transition_by kernel fields line lines n parameters e =
     ap (λ o. o >>= λ def. of_first copy_of lines >>= λ copy. distinct def.1 >>= λ scope. writes_of fields scope copy (drop 1 lines) >>= λ writes.
     made kernel def.0 scope copy writes) e

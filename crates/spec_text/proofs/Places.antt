@@ -1,7 +1,6 @@
 -- The place of a name among references to names.
-use Rattle.std.proofs.Common.{◌≡◌, ℕ, Bool, not, List, [], ◌∷◌, map, length, position, bytes_eq, refl, ap, ◌∙◌, sym, arith}
-use Rattle.std.specs.List.{prefix_len, position_or_len}
-use Rattle.std.proofs.lemmas.Grind.{common_steps}
+use Rattle.std.proofs.Common.{◌≡◌, ℕ, Bool, not, List, [], ◌∷◌, map, length, position, bytes_eq, refl}
+use Rattle.std.specs.List.{prefix_len}
 use Rattle.spec_text.specs.Spelling.{place_of}
 use Rattle.spec_text.specs.Texts.{texts}
 use denote.Ref.{Bor}

@@ -1,9 +1,9 @@
 -- The words of a row are read as what they say, and nothing else is: both directions, once for all rows.
-use Rattle.std.proofs.Common.{◌≡◌, ℕ, zero, suc, ◌+◌, Bool, true, false, List, [], ◌∷◌, ◌++◌, length, drop, take, Option, Some, None, bytes_eq, refl, ap, ◌∙◌, sym, subst, arith, if◌then◌else◌, append_assoc, append-nil, nat_eq, inl, inr}
+use Rattle.std.proofs.Common.{◌≡◌, ℕ, Bool, true, false, List, [], ◌∷◌, ◌++◌, Option, Some, None, bytes_eq, refl, ap, ◌∙◌, sym, subst, if◌then◌else◌, append-nil}
 use Rattle.std.proofs.lemmas.Slice.Eq.{bytes_eq-Decides}
 use Rattle.spec_text.specs.Lexing.{◌>>=◌, Word}
 use Rattle.spec_text.specs.Rows.{Part, key, name, byte, Said, SpellsRow, is_name, byte_of}
-use Rattle.spec_text.specs.Reading.{row_at, row_of, alone, behind, name_at, byte_at}
+use Rattle.spec_text.specs.Reading.{row_at, row_of, alone}
 
 -- equal bytes pass the test, and bytes that pass are equal
 pub eq_refl : (w : Word) → bytes_eq w w ≡ true

@@ -2,9 +2,8 @@
 use Rattle.std.proofs.Common.{◌≡◌, ℕ, zero, suc, ◌+◌, ◌-◌, ◌≤◌, ◌<◌, Bool, true, false, not, cond, List, [], ◌∷◌, ◌++◌, length, drop, take, Option, Some, None, option_map, refl, ap, ◌∙◌, sym, arith, append_assoc, append-nil}
 use Rattle.std.specs.List.{slice_split, position_or_len, onto_first}
 use Rattle.std.proofs.lemmas.List.Splits.{slice_split_first}
-use Rattle.std.proofs.lemmas.Grind.{common_steps}
 use Rattle.spec_text.specs.Front.{with_front}
-use Rattle.spec_text.specs.Lexing.{◌>>=◌, Word, Line, words_from, after_piece, piece_at, line_of, lines_of, logical_lines, is_newline, with_line}
+use Rattle.spec_text.specs.Lexing.{◌>>=◌, Line, words_from, after_piece, piece_at, line_of, lines_of, logical_lines, is_newline, with_line}
 use Rattle.spec_text.specs.Texts.{texts}
 use Rattle.spec_text.specs.Views.{said, words_said}
 use Rattle.spec_text.specs.declared.line.Line.{Line as Read}

@@ -1,11 +1,7 @@
 -- Reading parts up to a stop: the steps of its loops.
-use Rattle.std.proofs.Common.{◌≡◌, ℕ, zero, suc, ◌+◌, ◌-◌, ◌≤◌, ◌<◌, Bool, true, false, List, [], ◌∷◌, ◌++◌, length, drop, take, map, Option, Some, None, option_map, refl, ap, ◌∙◌, sym, arith, get_or, if◌then◌else◌}
-use Rattle.std.proofs.Math.Seq.{drop-cons}
-use Rattle.spec_text.specs.Lexing.{◌>>=◌, Word, Line}
-use Rattle.spec_text.specs.Reading.{until, of_first, begins_equiv, is_equiv, field_of, fields_of, begins_return, is_return, write_of, writes_of, one}
-use Rattle.spec_text.specs.Views.{said, words_said}
-use Rattle.spec_text.specs.declared.line.Line.{Line as Read}
-use Rattle.spec_thin.specs.declared.tree.Write.{Write}
+use Rattle.std.proofs.Common.{◌≡◌, ℕ, zero, suc, ◌-◌, Bool, true, false, List, [], ◌∷◌, drop, Option, Some, None, option_map, refl, ap, ◌∙◌, arith, if◌then◌else◌}
+use Rattle.spec_text.specs.Lexing.{◌>>=◌}
+use Rattle.spec_text.specs.Reading.{until}
 
 module _ {A W : Type 0} (stop : List W → Bool) (item : List W → Option A) (width : A → ℕ) where
   -- elements that are passed over are dropped

@@ -1,12 +1,12 @@
 -- Parts up to a stop are read as what they spell, and nothing else is: both directions, once for all parts.
-use Rattle.std.proofs.Common.{◌≡◌, ℕ, zero, suc, ◌+◌, ◌-◌, ◌≤◌, ◌<◌, Bool, true, false, List, [], ◌∷◌, ◌++◌, length, drop, take, Option, Some, None, option_map, refl, ap, ◌∙◌, sym, subst, arith, if◌then◌else◌, append_assoc, length-append}
+use Rattle.std.proofs.Common.{◌≡◌, ℕ, zero, suc, ◌+◌, ◌-◌, ◌≤◌, Bool, true, false, List, [], ◌∷◌, ◌++◌, length, drop, take, Option, Some, None, option_map, refl, ap, ◌∙◌, sym, subst, arith, if◌then◌else◌, append_assoc, length-append}
 use Rattle.std.proofs.Math.Seq.{drop-append_seam}
 use Rattle.std.proofs.lemmas.List.{take-append-drop, length-take}
 use Rattle.spec_text.specs.Lexing.{◌>>=◌}
 use Rattle.spec_text.specs.Spelling.{Each}
 use Rattle.spec_text.specs.Reading.{until}
 use Rattle.spec_text.proofs.RowLaws.{Bound, bind_some, some_is}
-use Rattle.spec_text.proofs.Until.{until_skip, until_stop, until_item}
+use Rattle.spec_text.proofs.Until.{until_stop, until_item}
 
 -- the elements of the parts
 abbrev pub total : {A : Type 0} → (A → ℕ) → List A → ℕ

@@ -1,5 +1,5 @@
 -- From the bytes of a text to its logical lines. A word is a token's bytes; a line is its leading spaces and its words.
-use Rattle.std.specs.Prelude.{ℕ, zero, suc, ◌+◌, ◌-◌, ◌*◌, ◌≤◌, Bool, true, false, ◌&&◌, ◌||◌, List, [], ◌∷◌, ◌++◌, length, take, drop, Option, Some, None, option_and_then, option_map, nat_eq, nat_lt, nat_le, if◌then◌else◌}
+use Rattle.std.specs.Prelude.{ℕ, zero, suc, ◌-◌, ◌≤◌, Bool, false, ◌&&◌, ◌||◌, List, [], ◌∷◌, ◌++◌, take, drop, Option, Some, None, option_and_then, option_map, nat_eq, nat_le, if◌then◌else◌}
 use Rattle.std.specs.List.{slice_split, prefix_len}
 use Rattle.spec_text.specs.declared.line.Piece.{Piece}
 use Rattle.spec_text.specs.declared.line.Piece.TheVariants.{Blank, Comment, Token, Outside}

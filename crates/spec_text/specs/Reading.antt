@@ -1,5 +1,5 @@
 -- The functions that read what Spelling spells: words and lines in, parts of the tree out.
-use Rattle.std.specs.Prelude.{◌≡◌, ℕ, zero, suc, ◌+◌, ◌-◌, Bool, true, false, not, ◌&&◌, List, [], ◌∷◌, ◌++◌, length, map, drop, Option, Some, None, option_map, is_some, bytes_eq, nat_eq, slice_get, if◌then◌else◌, codes}
+use Rattle.std.specs.Prelude.{ℕ, zero, suc, ◌+◌, ◌-◌, Bool, true, false, List, [], ◌∷◌, length, map, drop, Option, Some, None, option_map, is_some, bytes_eq, nat_eq, if◌then◌else◌, codes}
 use Rattle.ir_thin.specs.declared.tree.Kernel.{Kernel}
 use Rattle.spec_thin.specs.declared.tree.Spec.{Spec}
 use Rattle.spec_thin.specs.declared.tree.Field.{Field}
@@ -11,7 +11,7 @@ use Rattle.spec_thin.specs.declared.tree.Primary.{Primary}
 use Rattle.spec_thin.specs.declared.tree.Primary.TheVariants.{Const, Arg, Entry}
 use Rattle.spec_text.specs.Lexing.{◌>>=◌, Word, Line, logical_lines}
 use Rattle.spec_text.specs.Rows.{Part, key, name, byte, Said, is_name, byte_of}
-use Rattle.spec_text.specs.Spelling.{place_of, are_distinct, are_local, body, top, class_row, derived_row, field_row, equiv_row, equation_row, Equation, fields_for, def_row, copy_row, entry_row, is_state, target_row, return_row, is_reserved, function_for, empty}
+use Rattle.spec_text.specs.Spelling.{place_of, are_distinct, are_local, body, class_row, derived_row, field_row, equiv_row, equation_row, Equation, fields_for, def_row, copy_row, entry_row, is_state, target_row, return_row, is_reserved, function_for, empty}
 
 -- the words behind this one
 abbrev pub behind : Word → List Word → Option (List Word)

@@ -1,5 +1,5 @@
 -- Productions as data: what each word of a line must be, what the words say, and how a row of words is read.
-use Rattle.std.specs.Prelude.{◌≡◌, ℕ, zero, suc, ◌+◌, ◌-◌, ◌*◌, Bool, true, false, not, ◌&&◌, ◌||◌, List, [], ◌∷◌, ◌++◌, length, Option, Some, None, option_map, bytes_eq, nat_eq, nat_lt, nat_le, if◌then◌else◌, codes}
+use Rattle.std.specs.Prelude.{◌≡◌, ℕ, ◌+◌, ◌-◌, ◌*◌, Bool, true, false, not, ◌&&◌, ◌||◌, List, [], ◌∷◌, Option, Some, None, bytes_eq, nat_eq, nat_lt, nat_le, if◌then◌else◌, codes}
 use Rattle.spec_text.specs.Lexing.{◌>>=◌, Word, is_letter, is_digit}
 
 -- the words that are never names

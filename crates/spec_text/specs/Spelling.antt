@@ -2,7 +2,6 @@
 use Rattle.std.specs.Prelude.{◌≡◌, ℕ, Bool, true, false, not, ◌&&◌, ◌||◌, ◌⊎◌, List, [], ◌∷◌, ◌++◌, length, map, Option, Some, None, option_map, is_some, is_none, position, bytes_eq, nat_eq, slice_get, if◌then◌else◌, codes}
 use Rattle.std.specs.List.{starts_with}
 use Rattle.ir_thin.specs.declared.tree.Kernel.{Kernel}
-use Rattle.ir_thin.specs.declared.tree.Function.{Function}
 use Rattle.spec_thin.specs.declared.tree.Spec.{Spec}
 use Rattle.spec_thin.specs.declared.tree.Field.{Field}
 use Rattle.spec_thin.specs.declared.tree.Transition.{Transition}
@@ -12,7 +11,7 @@ use Rattle.spec_thin.specs.declared.tree.Expr.TheVariants.{Is, Add, BitXor}
 use Rattle.spec_thin.specs.declared.tree.Primary.{Primary}
 use Rattle.spec_thin.specs.declared.tree.Primary.TheVariants.{Const, Arg, Entry}
 use Rattle.spec_text.specs.Lexing.{◌>>=◌, Word, Line, logical_lines}
-use Rattle.spec_text.specs.Rows.{Part, key, name, byte, Said, SpellsRow}
+use Rattle.spec_text.specs.Rows.{Part, key, name, byte, SpellsRow}
 
 -- where the name stands in the list
 abbrev pub place_of : Word → List Word → Option ℕ

@@ -1,17 +1,19 @@
 //! A scope: names in the order in which they were defined, each with its place.
 
 ghost use Rattle.std.specs.Prelude.{◌≡◌, ◌++◌, ◌∷◌, [], not, is_some, IfOk, OnErr, IfSome, bytes_eq, position as position_by, ◌<◌, length, if◌then◌else◌};
+ghost use Rattle.std.specs.List.{list_any};
 ghost use Rattle.spec_text.specs.Spelling.{place_of};
 ghost use Rattle.spec_text.specs.Reading.{distinct};
 ghost use Rattle.spec_text.specs.Texts.{texts, Finds};
 
+use indexmap::IndexSet;
 use std::alloc::{AllocError, Global};
 use std::marker::Model;
 
-/// Distinct names, seen by contracts as the list of their bytes in order.
+/// Distinct names, seen by contracts as the list of their bytes in order. Looking a name up takes constant time.
 #[derive(Drop)]
 pub struct Names<'l> {
-    items: Vec<&'l [u8]>,
+    set: IndexSet<&'l [u8]>,
 }
 
 impl<'l> Model for Names<'l> {
@@ -20,17 +22,18 @@ impl<'l> Model for Names<'l> {
 
     ghost Value = { List (List ℕ) };
 
-    ghost view = { λ n. texts n.items.items };
+    ghost view = { λ n. texts n.set.keys };
 
-    ghost invariant = { λ n. length n.items.items < 2 ^ 32 };
+    ghost invariant = { λ n. length n.set.keys < 2 ^ 32 };
 }
 
-/// Where a name stands first among names.
-fn position(names: &[&[u8]], name: &[u8]) -> Option<usize>
-    ensures value { result ≡ position_by (λ n. bytes_eq name.now n.now) names.now }
-    ensures within { IfSome result (λ place. place < length names.now) }
+/// Where a name stands among names.
+fn position(names: &IndexSet<&[u8]>, name: &[u8]) -> Option<usize>
+    ensures value { result ≡ position_by (λ n. bytes_eq name.now n.now) names.now.keys }
+    ensures within { IfSome result (λ place. place < length names.now.keys) }
+    ensures among { is_some result ≡ list_any (λ n. bytes_eq name.now n.now) names.now.keys }
 {
-    names.iter().position(|n| name == *n)
+    names.get_index_of(&name)
 }
 
 impl<'l> Names<'l> {
@@ -39,7 +42,7 @@ impl<'l> Names<'l> {
         ensures { result ≡ [] }
     {
         Names {
-            items: Vec::new(alloc),
+            set: IndexSet::new(alloc),
         }
     }
 
@@ -47,7 +50,7 @@ impl<'l> Names<'l> {
     pub fn count(&self) -> u32
         ensures { result ≡ length self.now }
     {
-        self.items.len() as u32
+        self.set.len() as u32
     }
 
     /// The place of a name.
@@ -55,25 +58,26 @@ impl<'l> Names<'l> {
     pub fn place(&self, name: &[u8]) -> Option<u32>
         ensures { result ≡ place_of name.now self.now }
     {
-        match position(&self.items, name) {
+        match position(&self.set, name) {
             Some(place) => Some(place as u32),
             None => None,
         }
     }
 
     /// Defines a name, if it is not there yet, and says whether it was new.
+    #[tactic(auto, using(crate::proofs::Places::place_texts, crate::proofs::Scopes::texts_push))]
     pub fn add(&mut self, name: &'l [u8]) -> Result<bool, AllocError>
         ensures told { IfOk result (λ fresh. fresh ≡ not (is_some (place_of name.now self.old))) }
         ensures after { IfOk result (λ fresh. self.new ≡ (if fresh then self.old ++ name.now ∷ [] else self.old)) }
         ensures err { OnErr result (self.new ≡ self.old) }
     {
-        if self.place(name).is_some() {
+        if position(&self.set, name).is_some() {
             return Ok(false);
         }
-        if self.items.len() >= u32::MAX as usize {
+        if self.set.len() >= u32::MAX as usize {
             return Err(AllocError);
         }
-        self.items.push(name)?;
+        self.set.insert(name)?;
         Ok(true)
     }
 

@@ -10,7 +10,7 @@ ghost use Rattle.spec_text.specs.Refusing.{IsRefusal, IsOnly};
 ghost use Rattle.spec_text.specs.Reading.{more_equations as more_equations_of, equations_of, parameters_of, def_of, begins_equiv as begins_equiv_of, fields_of, begins_return as begins_return_of, writes_of, of_first, field_of, write_of, copy_of, transition_at as transition_at_of, transitions_of, classed_of, spec_of, text_of, distinct, top_names, checked as checked_of};
 ghost use Rattle.spec_text.specs.Texts.{texts, Finds};
 ghost use Rattle.spec_text.specs.Views.{said, words_said, text, equations as equations_said, Gives};
-ghost use Rattle.spec_text.specs.Parts.{fielded as fielded_of, copied as copied_of};
+ghost use Rattle.spec_text.specs.Parts.{moved as moved_of, fielded as fielded_of, written as written_of, copied as copied_of};
 
 use crate::expr::write;
 use crate::fault::{SpecFault, SpecReason, SpecStop, Stop};
@@ -190,6 +190,29 @@ fn writes<'l, 't>(
     Err(Stop::Ended)
 }
 
+/// The transition of this name, with these parameters and this copy, from the line behind that of the copy on. Its `def`
+/// line has this number.
+#[tactic(auto, unfolding(crate::specs::Parts::written))]
+fn written<'l, 't>(
+    alloc: Global,
+    kernel: &Kernel,
+    fields: &Names,
+    number: u32,
+    name: &[u8],
+    scope: &Names,
+    copy: &[u8],
+    lines: &'l [Line<'t>],
+) -> Result<Transition, Stop>
+    requires { length kernel.now.functions < 2 ^ 32 }
+    ensures value { Gives (λ t. t) result (written_of kernel.now fields.now name.now scope.now copy.now (said lines.now)) }
+    ensures within { IfOk result (λ t. length t.writes + 1 ≤ length lines.now) }
+{
+    let writes = writes(alloc, fields, scope, copy, lines)?;
+    resolve::transition(alloc, kernel, name, scope, copy, Seq::from_vec(writes))?.ok_or(
+        Stop::Refused(number),
+    )
+}
+
 /// The transition of this name and these parameters, from the line of the copy on. Its `def` line has this number.
 #[tactic(auto, unfolding(crate::specs::Parts::copied))]
 fn copied<'l, 't>(
@@ -210,10 +233,7 @@ fn copied<'l, 't>(
         [line, behind @ ..] => {
             let copy = copy(line.words.as_slice()).ok_or(Stop::Refused(line.number))?;
             let scope = Names::of(alloc, parameters)?.ok_or(Stop::Refused(number))?;
-            let writes = writes(alloc, fields, &scope, copy, behind)?;
-            resolve::transition(alloc, kernel, name, &scope, copy, Seq::from_vec(writes))?.ok_or(
-                Stop::Refused(number),
-            )
+            written(alloc, kernel, fields, number, name, &scope, copy, behind)
         }
     }
 }
@@ -305,6 +325,25 @@ fn checked(
     }
 }
 
+/// The specification of these fields, whose names are the scope, from the line behind the equations on. The line of its
+/// class has this number.
+#[tactic(auto, unfolding(crate::specs::Parts::moved))]
+fn moved<'l, 't>(
+    alloc: Global,
+    kernel: &Kernel,
+    class: &[u8],
+    number: u32,
+    fields: Seq<Field>,
+    scope: &Names,
+    lines: &'l [Line<'t>],
+) -> Result<Spec, Stop>
+    requires { length kernel.now.functions < 2 ^ 32 }
+    ensures { Gives (λ s. s) result (moved_of kernel.now class.now fields scope.now (said lines.now)) }
+{
+    let transitions = transitions(alloc, kernel, scope, lines)?;
+    checked(alloc, class, number, fields, transitions)
+}
+
 /// The specification of fields of these names, from the line of the equations on. The line of its class has this number.
 #[tactic(auto, unfolding(crate::specs::Parts::fielded))]
 fn fielded<'l, 't>(
@@ -329,8 +368,7 @@ fn fielded<'l, 't>(
                 line.number,
             ))?;
             let scope = Names::of(alloc, names)?.ok_or(Stop::Refused(number))?;
-            let transitions = transitions(alloc, kernel, &scope, behind)?;
-            checked(alloc, class, number, fields, transitions)
+            moved(alloc, kernel, class, number, fields, &scope, behind)
         }
     }
 }

@@ -1,7 +1,7 @@
 //! What names say: fields find their globals, and transitions their functions.
 
 ghost use Rattle.std.specs.Prelude.{◌≡◌, ◌<◌, ◌^◌, ℕ, length, map, not, ◌&&◌, IfSome, IfOk, position as position_by, bytes_eq};
-ghost use Rattle.spec_text.specs.Spelling.{global_names, function_names, place_of, field_for as field_for_of, fields_for, is_reserved as is_reserved_of, are_local as are_local_of, function_for, with_arity as with_arity_of};
+ghost use Rattle.spec_text.specs.Spelling.{global_names, function_names, place_of, each, field_for as field_for_of, fields_for, is_reserved as is_reserved_of, are_local as are_local_of, function_for, with_arity as with_arity_of};
 ghost use Rattle.spec_text.specs.Reading.{made};
 ghost use Rattle.spec_text.specs.Texts.{texts, Finds};
 ghost use Rattle.spec_text.specs.Views.{equations as equations_said, Gives};
@@ -105,6 +105,28 @@ fn equation_fields<'l>(
     Ok(names)
 }
 
+/// The fields of these names, each with the global of its equation. `table` has the equations' fields in their order.
+fn each_field<'l>(
+    alloc: Global,
+    kernel: &Kernel,
+    table: &Names,
+    equations: &[Equation<'l>],
+    names: &[&'l [u8]],
+) -> Result<Option<Seq<Field>>, AllocError>
+    requires few { length kernel.now.globals < 2 ^ 32 }
+    requires tabled { table.now ≡ map (λ e. e.0) (equations_said equations.now) }
+    ensures { Finds (λ fields. fields) result (each (field_for_of kernel.now (equations_said equations.now)) (texts names.now)) }
+{
+    let mut fields = Vec::new(alloc);
+    for name in names {
+        let Some(field) = field(alloc, kernel, table, equations, name)? else {
+            return Ok(None);
+        };
+        fields.push(field)?;
+    }
+    Ok(Some(Seq::from_vec(fields)))
+}
+
 /// The fields of these names, each with its global, if each has one equation and there are no others.
 pub fn fields<'l>(
     alloc: Global,
@@ -119,17 +141,10 @@ pub fn fields<'l>(
         return Ok(None);
     }
     let equated = equation_fields(alloc, equations)?;
-    let Some(table) = Names::of(alloc, &equated)? else {
-        return Ok(None);
-    };
-    let mut fields = Vec::new(alloc);
-    for name in names {
-        let Some(field) = field(alloc, kernel, &table, equations, name)? else {
-            return Ok(None);
-        };
-        fields.push(field)?;
+    match Names::of(alloc, &equated)? {
+        Some(table) => each_field(alloc, kernel, &table, equations, names),
+        None => Ok(None),
     }
-    Ok(Some(Seq::from_vec(fields)))
 }
 
 /// Whether the name begins as the functions do that are no transitions.

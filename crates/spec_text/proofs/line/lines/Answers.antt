@@ -1,4 +1,4 @@
-use Rattle.std.proofs.Common.{◌≡◌, ◌∙◌, ◌+◌, ◌<◌, ◌≤◌, length, drop, arith, sym, ap, rules}
+use Rattle.std.proofs.Common.{◌≡◌, ◌∙◌, ◌+◌, ◌≤◌, length, drop, arith, sym, ap, rules}
 use Rattle.std.specs.List.{position_or_len}
 use Rattle.spec_text.specs.Front.{with_front}
 use Rattle.spec_text.specs.Lexing.{◌>>=◌, logical_lines, line_of, with_line, is_newline}

@@ -1,4 +1,4 @@
-use Rattle.std.proofs.Common.{◌≡◌, ℕ, ◌+◌, ◌-◌, ◌≤◌, length}
+use Rattle.std.proofs.Common.{◌≡◌, ◌+◌, ◌≤◌, length}
 use Rattle.std.specs.List.{position_or_len}
 use Rattle.spec_text.specs.Front.{with_front}
 use Rattle.spec_text.specs.Lexing.{logical_lines, is_newline}

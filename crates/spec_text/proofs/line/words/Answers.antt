@@ -1,5 +1,4 @@
 use Rattle.std.proofs.Common.{◌∙◌, sym, ◌<◌, length, arith}
-use Rattle.spec_text.specs.Lexing.{piece_at}
 use Rattle.spec_text.proofs.Steps.{words_push}
 use Rattle.spec_text.proofs.line.words.Goals as goal
 

@@ -1,4 +1,4 @@
-use Rattle.std.proofs.Common.{◌≡◌, ℕ, List, ◌∷◌, length, option_map}
+use Rattle.std.proofs.Common.{◌≡◌, ◌∷◌, length, option_map}
 use Rattle.spec_text.specs.Front.{with_front}
 use Rattle.spec_text.specs.Lexing.{words_from}
 use Rattle.spec_text.specs.Texts.{texts}

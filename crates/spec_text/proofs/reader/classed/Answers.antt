@@ -1,4 +1,4 @@
-use Rattle.std.proofs.Common.{◌≡◌, ◌∙◌, ◌+◌, ◌-◌, sym, ap, List, ℕ, length, drop, take}
+use Rattle.std.proofs.Common.{◌∙◌, ◌+◌, ◌-◌, sym, ap, length, drop, take}
 use Rattle.spec_text.specs.Parts.{fielded}
 use Rattle.spec_text.specs.Texts.{texts}
 use Rattle.spec_text.specs.Views.{said}

@@ -1,8 +1,7 @@
-use Rattle.std.proofs.Common.{rules, ◌≡◌, ◌<◌, ◌≤◌, ◌+◌, ◌-◌, ℕ, length, option_map, Bool, true, false, List, [], ◌∷◌, ◌++◌, Option, Some, None, drop, take, get_or, refl, ap, ◌∙◌, sym, arith, length-drop}
+use Rattle.std.proofs.Common.{rules, ◌+◌, drop, refl, ap, ◌∙◌, sym, arith}
 use Rattle.spec_text.specs.Front.{with_front}
 use Rattle.spec_text.specs.Texts.{texts}
 use Rattle.spec_text.proofs.Scopes.{texts_push}
-use denote.Ref.{Bor}
 use Rattle.spec_text.specs.Views.{said, words_said}
 use Rattle.spec_text.specs.Reading.{begins_equiv, of_first, field_of, fields_of, one}
 use Rattle.spec_text.proofs.LoopLaws.{loop_stop, loop_bind, loop_next, loop_end, no_equiv}

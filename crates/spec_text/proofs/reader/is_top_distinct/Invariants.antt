@@ -1,7 +1,5 @@
-use Rattle.std.proofs.Common.{◌≡◌, ℕ, ◌+◌, ◌-◌, ◌≤◌, drop, take, map, length, List, [], ◌∷◌, codes}
-use Rattle.spec_text.specs.Front.{with_front}
+use Rattle.std.proofs.Common.{◌≡◌, take, map, ◌∷◌, codes}
 use Rattle.spec_text.specs.Texts.{texts}
-use Rattle.spec_text.specs.Views.{said, equations as equations_said}
 use Rattle.spec_text.proofs.reader.is_top_distinct.Given as goal
 
 abbrev pub invariant-loop-transition : goal.invariant-loop-transition

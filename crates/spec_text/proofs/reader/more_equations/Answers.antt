@@ -1,7 +1,6 @@
-use Rattle.std.proofs.Common.{rules, ◌≡◌, ◌<◌, ◌≤◌, ◌+◌, ◌-◌, ℕ, length, option_map, Bool, true, false, List, [], ◌∷◌, ◌++◌, Option, Some, None, drop, take, get_or, refl, ap, ◌∙◌, sym, arith, length-drop}
+use Rattle.std.proofs.Common.{◌+◌, ℕ, List, drop, refl, ap, ◌∙◌, sym, arith}
 use Rattle.spec_text.specs.Front.{with_front}
 use Rattle.spec_text.specs.Texts.{texts}
-use Rattle.spec_text.proofs.Scopes.{texts_push}
 use denote.Ref.{Bor}
 use Rattle.spec_text.specs.Views.{equations as equations_said, equation as equation_said}
 use Rattle.spec_text.specs.Reading.{is_closed, further_at, eight, more_equations as more_equations_of}

@@ -1,10 +1,10 @@
-use Rattle.std.proofs.Common.{rules, ◌≡◌, ◌<◌, ◌≤◌, ◌+◌, ◌-◌, ℕ, length, option_map, Bool, true, false, List, [], ◌∷◌, ◌++◌, Option, Some, None, drop, take, get_or, refl, ap, ◌∙◌, sym, arith, length-drop}
+use Rattle.std.proofs.Common.{◌+◌, ℕ, List, drop, refl, ap, ◌∙◌, sym, arith}
 use Rattle.spec_text.specs.Front.{with_front}
 use Rattle.spec_text.specs.Texts.{texts}
 use Rattle.spec_text.proofs.Scopes.{texts_push}
 use denote.Ref.{Bor}
 use Rattle.spec_text.specs.Reading.{is_def_end, parameter_at, two, parameters_of}
-use Rattle.spec_text.proofs.LoopLaws.{loop_stop, loop_none, loop_next, loop_end, map_push, no_def_end}
+use Rattle.spec_text.proofs.LoopLaws.{loop_stop, loop_none, loop_next, loop_end, no_def_end}
 use Rattle.spec_text.proofs.reader.parameters.Goals as goal
 
 pub returns-then-is_def_end : goal.returns-then-is_def_end

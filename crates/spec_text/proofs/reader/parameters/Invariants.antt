@@ -1,7 +1,6 @@
-use Rattle.std.proofs.Common.{◌≡◌, ℕ, ◌+◌, ◌-◌, ◌≤◌, drop, take, map, length, List, [], ◌∷◌, codes}
+use Rattle.std.proofs.Common.{◌≡◌, ◌-◌, drop, length}
 use Rattle.spec_text.specs.Front.{with_front}
 use Rattle.spec_text.specs.Texts.{texts}
-use Rattle.spec_text.specs.Views.{said, equations as equations_said}
 use Rattle.spec_text.specs.Reading.{parameters_of}
 use Rattle.spec_text.proofs.reader.parameters.Given as goal
 

@@ -1,4 +1,4 @@
-use Rattle.std.proofs.Common.{◌≡◌, ◌∙◌, ◌+◌, ◌-◌, ◌≤◌, sym, ap, arith, List, ℕ, length, drop, take}
+use Rattle.std.proofs.Common.{◌∙◌, ◌-◌, ◌≤◌, sym, ap, arith, length, drop, take}
 use Rattle.spec_text.specs.Reading.{transition_at}
 use Rattle.spec_text.specs.Parts.{copied}
 use Rattle.spec_text.specs.Texts.{texts}

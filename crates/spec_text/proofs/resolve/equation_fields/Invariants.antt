@@ -1,4 +1,4 @@
-use Rattle.std.proofs.Common.{◌≡◌, ℕ, take, map}
+use Rattle.std.proofs.Common.{◌≡◌, take, map}
 use Rattle.spec_text.specs.Texts.{texts}
 use Rattle.spec_text.specs.Views.{equations as equations_said}
 use Rattle.spec_text.proofs.resolve.equation_fields.Given as goal

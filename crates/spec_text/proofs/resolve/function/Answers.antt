@@ -1,4 +1,4 @@
-use Rattle.std.proofs.Common.{◌≡◌, ◌∙◌, sym, ap, Some, List, ℕ, bytes_eq, position as position_by}
+use Rattle.std.proofs.Common.{◌≡◌, ◌∙◌, sym, ap, Some, bytes_eq, position as position_by}
 use Rattle.spec_text.specs.Lexing.{◌>>=◌}
 use Rattle.spec_text.specs.Spelling.{with_arity, place_of, function_names}
 use Rattle.spec_text.proofs.Places.{place_names}

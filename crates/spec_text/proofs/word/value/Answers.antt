@@ -1,4 +1,4 @@
-use Rattle.std.proofs.Common.{◌≡◌, ℕ, ◌+◌, ◌*◌, ◌≤◌, get_or, sym, ◌∙◌, arith, refl}
+use Rattle.std.proofs.Common.{◌≡◌, ◌+◌, ◌*◌, ◌≤◌, get_or, sym, ◌∙◌, arith, refl}
 use Rattle.spec_text.specs.Rows.{digit_value as digit_of}
 use Rattle.spec_text.proofs.Numbers.{value_exit_at}
 use Rattle.spec_text.proofs.word.value.Goals as goal

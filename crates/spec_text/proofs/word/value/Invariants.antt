@@ -1,4 +1,4 @@
-use Rattle.std.proofs.Common.{◌≡◌, ℕ, ◌≤◌, drop}
+use Rattle.std.proofs.Common.{◌≡◌, ◌≤◌, drop}
 use Rattle.spec_text.specs.Rows.{small, value_from}
 use Rattle.spec_text.proofs.word.value.Given as goal
 

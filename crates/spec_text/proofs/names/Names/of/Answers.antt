@@ -1,9 +1,8 @@
-use Rattle.std.proofs.Common.{◌≡◌, ◌∙◌, ◌+◌, ◌++◌, ◌∷◌, [], List, ℕ, sym, ap, arith, Bool, Some, None, false, true, if◌then◌else◌, suc, take, drop, get_or, refl}
+use Rattle.std.proofs.Common.{◌≡◌, ◌∙◌, ◌+◌, ◌++◌, ◌∷◌, [], sym, ap, Some, None, if◌then◌else◌, drop, get_or}
 use Rattle.std.proofs.lemmas.List.{take_all}
-use Rattle.spec_text.specs.Spelling.{are_new, are_distinct}
+use Rattle.spec_text.specs.Spelling.{are_new}
 use Rattle.spec_text.specs.Texts.{texts}
 use Rattle.spec_text.proofs.Scopes.{scope_stop, scope_next, scope_end, scope_same}
-use denote.Ref.{Bor}
 use Rattle.spec_text.proofs.names.Names.of.Goals as goal
 
 pub returns-then-not-branch : goal.returns-then-not-branch

@@ -1,4 +1,4 @@
-use Rattle.std.proofs.Common.{◌≡◌, ℕ, drop, take, []}
+use Rattle.std.proofs.Common.{◌≡◌, drop, take, []}
 use Rattle.spec_text.specs.Spelling.{are_new}
 use Rattle.spec_text.specs.Texts.{texts}
 use Rattle.spec_text.proofs.names.Names.of.Given as goal

@@ -1,9 +1,0 @@
-pub mod Complete
-pub mod Digits
-pub mod Fresh
-pub mod Fronts
-pub mod Kernels
-pub mod Lines
-pub mod Parameters
-pub mod Rows
-pub mod Texts

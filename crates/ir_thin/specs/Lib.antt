@@ -1,4 +1,0 @@
-pub mod Text
-pub mod Spelling
-pub mod Row
-pub mod Reading
