@@ -1,0 +1,3 @@
+unsigned char ticks;
+void tick(void) { ticks++; }
+unsigned char now(void) { return ticks; }

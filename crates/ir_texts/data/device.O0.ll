@@ -1,0 +1,44 @@
+; ModuleID = 'device.c'
+source_filename = "device.c"
+target datalayout = "e-m:e-p270:32:32-p271:32:32-p272:64:64-i64:64-f80:128-n8:16:32:64-S128"
+target triple = "x86_64-pc-linux-gnu"
+
+@device = dso_local global i32 0, align 4
+
+; Function Attrs: noinline nounwind optnone uwtable
+define dso_local i32 @poll() #0 {
+  %1 = alloca i32, align 4
+  store i32 0, ptr %1, align 4
+  br label %2
+
+2:                                                ; preds = %7, %0
+  %3 = load volatile i32, ptr @device, align 4
+  %4 = and i32 %3, 1
+  %5 = icmp ne i32 %4, 0
+  %6 = xor i1 %5, true
+  br i1 %6, label %7, label %10
+
+7:                                                ; preds = %2
+  %8 = load i32, ptr %1, align 4
+  %9 = add i32 %8, 1
+  store i32 %9, ptr %1, align 4
+  br label %2, !llvm.loop !6
+
+10:                                               ; preds = %2
+  %11 = load i32, ptr %1, align 4
+  ret i32 %11
+}
+
+attributes #0 = { noinline nounwind optnone uwtable "frame-pointer"="all" "min-legal-vector-width"="0" "no-trapping-math"="true" "stack-protector-buffer-size"="8" "target-cpu"="x86-64" "target-features"="+cx8,+fxsr,+mmx,+sse,+sse2,+x87" "tune-cpu"="generic" }
+
+!llvm.module.flags = !{!0, !1, !2, !3, !4}
+!llvm.ident = !{!5}
+
+!0 = !{i32 1, !"wchar_size", i32 4}
+!1 = !{i32 8, !"PIC Level", i32 2}
+!2 = !{i32 7, !"PIE Level", i32 2}
+!3 = !{i32 7, !"uwtable", i32 2}
+!4 = !{i32 7, !"frame-pointer", i32 2}
+!5 = !{!"Debian clang version 16.0.6 (15~deb12u1)"}
+!6 = distinct !{!6, !7}
+!7 = !{!"llvm.loop.mustprogress"}

@@ -1,0 +1,32 @@
+; ModuleID = 'local.c'
+source_filename = "local.c"
+target datalayout = "e-m:e-p270:32:32-p271:32:32-p272:64:64-i64:64-f80:128-n8:16:32:64-S128"
+target triple = "x86_64-pc-linux-gnu"
+
+; Function Attrs: noinline nounwind optnone uwtable
+define dso_local i32 @local() #0 {
+  %1 = alloca [2 x i32], align 4
+  %2 = getelementptr inbounds [2 x i32], ptr %1, i64 0, i64 0
+  call void @fill(ptr noundef %2)
+  %3 = getelementptr inbounds [2 x i32], ptr %1, i64 0, i64 0
+  %4 = load i32, ptr %3, align 4
+  %5 = getelementptr inbounds [2 x i32], ptr %1, i64 0, i64 1
+  %6 = load i32, ptr %5, align 4
+  %7 = add nsw i32 %4, %6
+  ret i32 %7
+}
+
+declare void @fill(ptr noundef) #1
+
+attributes #0 = { noinline nounwind optnone uwtable "frame-pointer"="all" "min-legal-vector-width"="0" "no-trapping-math"="true" "stack-protector-buffer-size"="8" "target-cpu"="x86-64" "target-features"="+cx8,+fxsr,+mmx,+sse,+sse2,+x87" "tune-cpu"="generic" }
+attributes #1 = { "frame-pointer"="all" "no-trapping-math"="true" "stack-protector-buffer-size"="8" "target-cpu"="x86-64" "target-features"="+cx8,+fxsr,+mmx,+sse,+sse2,+x87" "tune-cpu"="generic" }
+
+!llvm.module.flags = !{!0, !1, !2, !3, !4}
+!llvm.ident = !{!5}
+
+!0 = !{i32 1, !"wchar_size", i32 4}
+!1 = !{i32 8, !"PIC Level", i32 2}
+!2 = !{i32 7, !"PIE Level", i32 2}
+!3 = !{i32 7, !"uwtable", i32 2}
+!4 = !{i32 7, !"frame-pointer", i32 2}
+!5 = !{!"Debian clang version 16.0.6 (15~deb12u1)"}

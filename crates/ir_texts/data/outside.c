@@ -1,0 +1,2 @@
+extern int limit;
+int below(int x) { return x < limit; }

@@ -1,0 +1,55 @@
+//! A test as a program: each word names a file, which is read as a kernel text, and each line says what it reads as.
+//!
+//! Its data are what clang 16 writes for small C functions, at several levels of optimisation. A text that leaves what
+//! is read is named with the line and the reason of what fails first.
+#![tactic(auto)]
+
+ghost use Rattle.std.specs.Prelude.{◌<◌, ◌^◌, length};
+
+use hk_io::{FolderShelf, LoadFault, Shelf};
+use ir_ast::KernelStop;
+use ir_read::read_module;
+use std::alloc::{AllocError, Global};
+use std::{env, io};
+
+/// The most bytes of a text: 16 MiB.
+const LIMIT: u32 = 16_777_216;
+
+/// What a text reads as.
+fn reading(alloc: Global, text: &[u8]) -> Result<String, AllocError>
+    requires { length text.now < 2 ^ 31 }
+{
+    match read_module(alloc, text) {
+        Ok(kernel) => format!(in alloc;
+            "{} types, {} globals, {} functions, {} ranges",
+            kernel.types.len(),
+            kernel.globals.len(),
+            kernel.functions.len(),
+            kernel.ranges.len()
+        ),
+        Err(KernelStop::Refused(fault)) => format!(in alloc; "{fault}"),
+        Err(KernelStop::Memory) => String::from_str(alloc, "memory"),
+    }
+}
+
+/// What the file of a name reads as.
+fn reading_of(alloc: Global, shelf: &mut FolderShelf, name: &str) -> Result<String, AllocError> {
+    match shelf.load(alloc, name, LIMIT) {
+        Ok(text) => reading(alloc, &text),
+        Err(LoadFault::Memory) => String::from_str(alloc, "memory"),
+        Err(_) => String::from_str(alloc, "no file"),
+    }
+}
+
+fn main(rt: HostRuntime) -> io::Result<()> {
+    let mut words = Vec::new(rt.alloc());
+    for word in env::args(&rt)? {
+        words.push(word)?;
+    }
+    let mut shelf = FolderShelf::new(rt);
+    for name in words.iter().skip(1) {
+        let read = reading_of(rt.alloc(), &mut shelf, name)?;
+        println!(rt; "{name}: {read}")?;
+    }
+    Ok(())
+}
