@@ -31,7 +31,7 @@ kernel() { # kernel EXTRA: the handler with so many additions of 0 more
 
 for extra in 0 8 64; do
   kernel "$extra" >"$work/kernel.ll"
-  python3 - "$root/hkv" "$work/kernel.ll" "$work/spec.py" "$extra" <<'TIME'
+  python3 - "$root/crates/hkv/out/hkv" "$work/kernel.ll" "$work/spec.py" "$extra" <<'TIME'
 import resource, subprocess, sys
 program, kernel, spec, extra = sys.argv[1:]
 for _ in range(10):

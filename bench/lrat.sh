@@ -8,7 +8,7 @@ work=$(mktemp -d)
 trap 'rm -rf "$work"' EXIT
 "$root/hkv" >/dev/null || true
 
-python3 - "$root/hkv" "$work" <<'RUN'
+python3 - "$root/crates/hkv/out/hkv" "$work" <<'RUN'
 import os, resource, subprocess, sys, time
 
 program, work = sys.argv[1:]

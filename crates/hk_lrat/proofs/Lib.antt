@@ -4,3 +4,4 @@ pub mod Look
 pub mod Refuted
 pub mod Sound
 pub mod Spelling
+pub mod Words

@@ -1,7 +1,7 @@
--- The parts of a row, word by word.
-use Rattle.std.proofs.Common.{◌≡◌, ℕ, ◌+◌, Bool, true, false, ◌||◌, cond, List, [], ◌∷◌, ◌++◌, length, take, drop, get_or, suc, ◌^◌, ℤ, pos, negsuc, neg_ℤ, Option, Some, None, refl, sym, ◌∙◌, ap, subst, arith, ◌<◌}
-use Rattle.std.proofs.lemmas.Bool.{cond-true, cond-false, or_right}
-use Rattle.std.proofs.lemmas.List.{append_assoc, append-nil, take_more, take-append-drop}
+-- A literal together with its negation, by a table of the literals that were seen.
+use Rattle.std.proofs.Common.{◌≡◌, ℕ, ◌+◌, Bool, true, false, ◌||◌, cond, List, [], ◌∷◌, ◌++◌, length, take, drop, get_or, suc, ◌^◌, ℤ, pos, negsuc, neg_ℤ, refl, sym, ◌∙◌, ap, subst, arith, ◌<◌}
+use Rattle.std.proofs.lemmas.Bool.{or_right}
+use Rattle.std.proofs.lemmas.List.{take_more, take-append-drop}
 use Rattle.std.proofs.lemmas.List.Folds.{list_any-append}
 use Rattle.std.proofs.lemmas.Int.{to_z-of_z}
 use mir.Val.{SFits, to_z, of_z}
@@ -9,48 +9,7 @@ use mir.Syntax.{w64}
 use Rattle.std.specs.Ordering.{int_eq}
 use Rattle.hk_cnf.specs.Literal.{has, IsLiteral}
 use Rattle.hk_lrat.specs.Log.{has_both}
-use Rattle.hk_lrat.specs.LogText.{is_end, with_item, part, after_items}
 use Rattle.hk_lrat.proofs.Denied.{has_both-push, has_both-left}
-
-item-more : {A : Type 0} (xs : List A) (x : A) (p : Option (List A × List (List ℕ))) → after_items xs (with_item (Some x) p) ≡ after_items (xs ++ x ∷ []) p
-item-more xs x None = refl
-item-more xs x (Some p) = ap (λ ys. Some (ys, p.1)) (sym (append_assoc xs (x ∷ []) p.0))
-
--- a word more
-pub part-more : {A : Type 0} (item : List ℕ → Option A) (xs : List A) (ws rest : List (List ℕ)) (w : List ℕ) (x : A) → ws ≡ w ∷ rest → is_end w ≡ false → item w ≡ Some x → after_items xs (part item ws) ≡ after_items (xs ++ x ∷ []) (part item rest)
-part-more item xs ws rest w x e n f =
-    ap (λ k. after_items xs (part item k)) e
-    ∙ (ap (after_items xs) (cond-false (is_end w) (Some ([], rest)) (with_item (item w) (part item rest)) n)
-    ∙ (ap (λ o. after_items xs (with_item o (part item rest))) f ∙ item-more xs x (part item rest)))
-
--- the token that ends it
-pub part-end : {A : Type 0} (item : List ℕ → Option A) (xs : List A) (ws rest : List (List ℕ)) (w : List ℕ) → ws ≡ w ∷ rest → is_end w ≡ true → after_items xs (part item ws) ≡ Some (xs, rest)
-part-end item xs ws rest w e n =
-    ap (λ k. after_items xs (part item k)) e
-    ∙ (ap (after_items xs) (cond-true (is_end w) (Some ([], rest)) (with_item (item w) (part item rest)) n)
-    ∙ ap (λ ys. Some (ys, rest)) (append-nil xs))
-
-pub part-bad : {A : Type 0} (item : List ℕ → Option A) (ws rest : List (List ℕ)) (w : List ℕ) → ws ≡ w ∷ rest → is_end w ≡ false → item w ≡ None → part item ws ≡ None
-part-bad item ws rest w e n f =
-    ap (part item) e ∙ (cond-false (is_end w) (Some ([], rest)) (with_item (item w) (part item rest)) n ∙ ap (λ o. with_item o (part item rest)) f)
-
-pub part-none : {A : Type 0} (item : List ℕ → Option A) (ws : List (List ℕ)) → ws ≡ [] → part item ws ≡ None
-part-none item ws e = ap (part item) e
-
--- nothing behind the items, nothing before them
-none-back : {A : Type 0} (xs : List A) (p : Option (List A × List (List ℕ))) → after_items xs p ≡ None → p ≡ None
-none-back xs None e = refl
-none-back xs (Some p) e = absurd (apart (xs ++ p.0, p.1) e)
-  where
-    apart : {B : Type 0} (b : B) → Some b ≡ None → ⊥
-    apart b h = cc
-
-pub part-fails : {A : Type 0} (xs ys : List A) (p q : Option (List A × List (List ℕ))) → after_items xs p ≡ after_items ys q → p ≡ None → q ≡ None
-part-fails xs ys p q e n = none-back ys q (sym e ∙ ap (after_items xs) n)
-
-pub part-found : {A : Type 0} (p : Option (List A × List (List ℕ))) → after_items [] p ≡ p
-part-found None = refl
-part-found (Some p) = refl
 
 -- a literal whose negation was seen, and one whose negation was not
 pub both-found : (c : List ℤ) (i : ℕ) (l : ℤ) → i < length c → l ≡ get_or c i l → has (take i c) (neg_ℤ l) ≡ true → true ≡ has_both c

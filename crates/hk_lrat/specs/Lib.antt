@@ -1,7 +1,9 @@
 pub mod Checked
 pub mod Entries
+pub mod LitLists
 pub mod Log
 pub mod LogText
 pub mod Marks
 pub mod Refutes
 pub mod Room
+pub mod Tokens

@@ -13,6 +13,8 @@ use crate::table::{Entry, live_clause};
 use hk_cnf::{Hint, Lit};
 
 /// The first reason against the hints while the marked literals are true. The literals that they set are marked too.
+// Inlined into the walk over the rows, this loop would lose its registers.
+#[inline(never)]
 fn hints_reason(
     vars: u64,
     table: &[Entry],

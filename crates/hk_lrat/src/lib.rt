@@ -11,6 +11,7 @@ mod log_read;
 mod marks;
 mod refutation;
 mod table;
+mod token;
 
 pub use checker::Checker;
 pub use log::{IdList, LitList, LratLog, LratRow, RefuteStop, RowReason};

@@ -1,7 +1,8 @@
 //! Logs of additions and deletions, and why one is refused.
 
-ghost use Rattle.std.specs.Prelude.{◌≡◌, ◌==◌, ◌++◌, [], ◌∷◌, length, OnOk, OnErr};
+ghost use Rattle.std.specs.Prelude.{◌≡◌, ◌==◌, ◌++◌, [], ◌∷◌, length, IfOk, OnOk, OnErr};
 ghost use Rattle.hk_lrat.specs.declared.log.RefuteStop.TheVariants.{Memory};
+ghost use Rattle.hk_lrat.specs.LitLists.{literals_of};
 ghost use Rattle.hk_lrat.specs.Log.{is_nil, is_empty_addition};
 
 use hk_cnf::Lit;
@@ -9,18 +10,56 @@ use std::alloc::{AllocError, AllocFailed, Global};
 use std::marker::Model;
 use thiserror::Error;
 
-/// The literals of a clause.
+/// One or two literals in place, or any number in memory of their own.
+#[derive(Drop, Debug)]
+enum Literals {
+    One([Lit; 1]),
+    Two([Lit; 2]),
+    Many(Vec<Lit>),
+}
+
+impl Literals {
+    /// These literals, with no room for more.
+    fn from_slice(alloc: Global, lits: &[Lit]) -> Result<Literals, AllocError>
+        ensures { IfOk result (λ own. literals_of own ≡ lits.now) }
+    {
+        match lits {
+            [one] => Ok(Literals::One([*one])),
+            [one, two] => Ok(Literals::Two([*one, *two])),
+            _ => {
+                let mut items = Vec::with_capacity(alloc, lits.len())?;
+                items.extend_from_slice(lits)?;
+                Ok(Literals::Many(items))
+            }
+        }
+    }
+
+    /// The literals.
+    fn as_slice(&self) -> &[Lit]
+        ensures { result.now ≡ literals_of self.now }
+    {
+        match self {
+            Literals::One(lits) => lits.as_slice(),
+            Literals::Two(lits) => lits.as_slice(),
+            Literals::Many(lits) => lits.as_slice(),
+        }
+    }
+}
+
+/// The literals of a clause. A list that is made of one or two takes no memory.
 #[derive(Drop, Debug)]
 pub struct LitList {
-    items: Vec<Lit>,
+    alloc: Global,
+    literals: Literals,
 }
 
 impl Model for LitList {
     ghost use Rattle.std.specs.Prelude.{List, ℤ};
+    ghost use Rattle.hk_lrat.specs.LitLists.{literals_of};
 
     ghost Value = { List ℤ };
 
-    ghost view = { λ l. l.items.items };
+    ghost view = { λ l. literals_of l.literals };
 }
 
 impl LitList {
@@ -29,7 +68,8 @@ impl LitList {
         ensures { result ≡ [] }
     {
         LitList {
-            items: Vec::new(alloc),
+            alloc,
+            literals: Literals::Many(Vec::new(alloc)),
         }
     }
 
@@ -37,7 +77,28 @@ impl LitList {
     pub fn from_vec(items: Vec<Lit>) -> LitList
         ensures { result ≡ items.items }
     {
-        LitList { items }
+        LitList {
+            alloc: *items.allocator(),
+            literals: Literals::Many(items),
+        }
+    }
+
+    /// A list of its own with these literals, and with no room for more.
+    pub fn from_slice(alloc: Global, lits: &[Lit]) -> Result<LitList, AllocError>
+        ensures { IfOk result (λ list. list ≡ lits.now) }
+    {
+        let literals = Literals::from_slice(alloc, lits)?;
+        Ok(LitList { alloc, literals })
+    }
+
+    /// The literals in a list with room for one more.
+    fn with_room(&self) -> Result<Vec<Lit>, AllocError>
+        ensures { IfOk result (λ items. items.items ≡ self.now) }
+    {
+        let lits = self.as_slice();
+        let mut items = Vec::new(self.alloc);
+        items.extend_from_slice(lits)?;
+        Ok(items)
     }
 
     /// A literal more. Without memory the list is as before.
@@ -45,7 +106,13 @@ impl LitList {
         ensures ok { OnOk result (self.new ≡ self.old ++ lit ∷ []) }
         ensures err { OnErr result (self.new ≡ self.old) }
     {
-        self.items.push(lit)?;
+        if let Literals::Many(items) = &mut self.literals {
+            items.push(lit)?;
+            return Ok(());
+        }
+        let mut items = self.with_room()?;
+        items.push(lit)?;
+        self.literals = Literals::Many(items);
         Ok(())
     }
 
@@ -53,7 +120,7 @@ impl LitList {
     pub fn is_empty(&self) -> bool
         ensures { result ≡ is_nil self.now }
     {
-        match self.items.as_slice() {
+        match self.as_slice() {
             [] => true,
             _ => false,
         }
@@ -63,7 +130,7 @@ impl LitList {
     pub fn as_slice(&self) -> &[Lit]
         ensures { result.now ≡ self.now }
     {
-        self.items.as_slice()
+        self.literals.as_slice()
     }
 }
 
@@ -96,6 +163,15 @@ impl IdList {
         ensures { result ≡ items.items }
     {
         IdList { items }
+    }
+
+    /// A list of its own with these ids, and with no room for more.
+    pub fn from_slice(alloc: Global, ids: &[u64]) -> Result<IdList, AllocError>
+        ensures { IfOk result (λ list. list ≡ ids.now) }
+    {
+        let mut items = Vec::with_capacity(alloc, ids.len())?;
+        items.extend_from_slice(ids)?;
+        Ok(IdList { items })
     }
 
     /// An id more. Without memory the list is as before.

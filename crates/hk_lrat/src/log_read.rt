@@ -7,22 +7,18 @@ ghost use Rattle.hk_cnf.specs.Text.{lines_of, words_of};
 ghost use Rattle.hk_cnf.specs.Dimacs.{is_nil};
 ghost use Rattle.hk_lrat.specs.Log.{has_both};
 ghost use Rattle.hk_lrat.specs.LogText.{is_skipped, is_end, is_deletion, id_of, hint_in, literal_in, part, after_items, deletion_of, hints_of, addition_of, row_of, rows_from, log_of, Reads, StopsWith, IsPart, stop_at};
+ghost use Rattle.hk_lrat.specs.Tokens.{after_hints, hint_parts, number_of};
 ghost use Rattle.hk_lrat.specs.declared.log_read.RowStop.TheVariants.{Memory as RowMemory};
 
 use crate::log::{IdList, LitList, LratLog, LratRow, RefuteStop, RowReason};
+use crate::token::{Token, literal, next_token, split_line};
 use hk_cnf::Lit;
-use hk_cnf::text::{natural, next_word, number, split_line};
+use hk_cnf::text::next_word;
 use std::alloc::{AllocError, AllocFailed, Global};
 use std::collections::HashSet;
 
-/// The greatest id, and the greatest size of a hint or a literal.
-const MOST: u64 = i64::MAX as u64;
-
 /// The most literals that a clause has for it to be looked through without a table.
 const FEW: usize = 16;
-
-/// The hints of a row for which room is made before they are read.
-const MANY_HINTS: usize = 32;
 
 /// Why a line was not read.
 enum RowStop {
@@ -56,13 +52,6 @@ fn is_skipped(line: &[u8]) -> bool
     }
 }
 
-/// Whether the word ends a part.
-fn is_end(word: &[u8]) -> bool
-    ensures { result ≡ is_end word.now }
-{
-    word == b"0".as_slice()
-}
-
 /// Whether the word tells a deletion.
 fn is_deletion(word: &[u8]) -> bool
     ensures { result ≡ is_deletion word.now }
@@ -70,28 +59,17 @@ fn is_deletion(word: &[u8]) -> bool
     word == b"d".as_slice()
 }
 
-/// The literal that a word spells.
-fn literal(word: &[u8]) -> Option<Lit>
-    ensures { result ≡ literal_in word.now }
-{
-    let value = number(word, MOST)?;
-    if value == 0 {
-        return None;
-    }
-    Some(Lit::new(value))
-}
-
 /// Reads literals up to the token `0`, and gives what follows it.
-fn literals<'t>(line: &'t [u8], clause: &mut LitList) -> Result<&'t [u8], RowStop>
-    ensures ok { IfOk result (λ rest. after_items clause.old (part literal_in (words_of false line.now)) ≡ Some (clause.new, words_of false rest.now)) }
+fn literals<'t>(line: &'t [u8], clause: &mut Vec<Lit>) -> Result<&'t [u8], RowStop>
+    ensures ok { IfOk result (λ rest. after_items clause.old.items (part literal_in (words_of false line.now)) ≡ Some (clause.new.items, words_of false rest.now)) }
     ensures err { IfErr result (λ stop. IsPart stop (part literal_in (words_of false line.now))) }
 {
     let mut rest = line;
-    while let Some((word, after)) = next_word(rest, false) {
-        if is_end(word) {
+    while let Some((token, after)) = next_token(rest) {
+        if token.is_end() {
             return Ok(after);
         }
-        let Some(lit) = literal(word) else {
+        let Some(lit) = literal(token) else {
             return Err(RowStop::Reason(RowReason::L1));
         };
         clause.push(lit)?;
@@ -101,16 +79,16 @@ fn literals<'t>(line: &'t [u8], clause: &mut LitList) -> Result<&'t [u8], RowSto
 }
 
 /// Reads ids up to the token `0`, and gives what follows it.
-fn ids<'t>(line: &'t [u8], ids: &mut IdList) -> Result<&'t [u8], RowStop>
-    ensures ok { IfOk result (λ rest. after_items ids.old (part id_of (words_of false line.now)) ≡ Some (ids.new, words_of false rest.now)) }
+fn ids<'t>(line: &'t [u8], ids: &mut Vec<u64>) -> Result<&'t [u8], RowStop>
+    ensures ok { IfOk result (λ rest. after_items ids.old.items (part id_of (words_of false line.now)) ≡ Some (ids.new.items, words_of false rest.now)) }
     ensures err { IfErr result (λ stop. IsPart stop (part id_of (words_of false line.now))) }
 {
     let mut rest = line;
-    while let Some((word, after)) = next_word(rest, false) {
-        if is_end(word) {
+    while let Some((token, after)) = next_token(rest) {
+        if token.is_end() {
             return Ok(after);
         }
-        let Some(id) = natural(word, MOST) else {
+        let Some(id) = token.id() else {
             return Err(RowStop::Reason(RowReason::L1));
         };
         ids.push(id)?;
@@ -162,38 +140,39 @@ fn has_both(alloc: Global, clause: &[Lit]) -> Result<bool, AllocError>
     has_both_by_table(alloc, clause)
 }
 
-/// Reads hints up to the token `0`, and gives what follows it.
-fn hints<'t>(line: &'t [u8], hints: &mut Vec<i64>) -> Result<&'t [u8], RowStop>
-    ensures ok { IfOk result (λ rest. after_items hints.old.items (part hint_in (words_of false line.now)) ≡ Some (hints.new.items, words_of false rest.now)) }
+/// A hint without its sign, and whether it is negative.
+fn hint(token: Token) -> Option<(u64, bool)>
+    ensures { result ≡ hint_parts (number_of token) }
+{
+    match token {
+        Token::End => Some((0, false)),
+        Token::Natural(size) => Some((size, false)),
+        Token::Minus(size) => Some((size, size > 0)),
+        Token::Other => None,
+    }
+}
+
+/// Reads hints up to the token `0`, and gives what follows it, and whether a hint is negative.
+// Nearly all words of a proof are hints: inlined into the walk over the lines, this loop would lose its registers.
+#[inline(never)]
+fn hints<'t>(line: &'t [u8], ids: &mut Vec<u64>) -> Result<(&'t [u8], bool), RowStop>
+    ensures ok { IfOk result (λ found. after_hints ids.old.items false (part hint_in (words_of false line.now)) ≡ Some (ids.new.items, (found.1, words_of false found.0.now))) }
     ensures err { IfErr result (λ stop. IsPart stop (part hint_in (words_of false line.now))) }
 {
+    let mut negative = false;
     let mut rest = line;
-    while let Some((word, after)) = next_word(rest, false) {
-        if is_end(word) {
-            return Ok(after);
+    while let Some((token, after)) = next_token(rest) {
+        if token.is_end() {
+            return Ok((after, negative));
         }
-        let Some(hint) = number(word, MOST) else {
+        let Some((id, below)) = hint(token) else {
             return Err(RowStop::Reason(RowReason::L1));
         };
-        hints.push(hint)?;
+        ids.push(id)?;
+        negative = negative || below;
         rest = after;
     }
     Err(RowStop::Reason(RowReason::L1))
-}
-
-/// Whether a hint is negative.
-fn has_negative(hints: &[i64]) -> bool
-    ensures { result ≡ list_any is_negation hints.now }
-{
-    hints.iter().any(|hint| *hint < 0)
-}
-
-/// The sizes of the hints, as ids.
-fn sizes(alloc: Global, hints: &[i64]) -> Result<IdList, AllocError>
-    ensures { IfOk result (λ ids. ids ≡ map nat_abs hints.now) }
-{
-    let ids: Vec<u64> = hints.iter().map(|hint| hint.unsigned_abs()).collect(alloc)?;
-    Ok(IdList::from_vec(ids))
 }
 
 /// Whether no word is left.
@@ -203,66 +182,81 @@ fn is_done(line: &[u8]) -> bool
     next_word(line, false).is_none()
 }
 
+/// Lists that are filled for one row after another.
+#[derive(Drop)]
+struct Scratch {
+    clause: Vec<Lit>,
+    ids: Vec<u64>,
+}
+
 /// Reads a deletion behind its `d`.
-fn deletion(alloc: Global, line: &[u8]) -> Result<LratRow, RowStop>
+fn deletion(alloc: Global, scratch: &mut Scratch, line: &[u8]) -> Result<LratRow, RowStop>
     ensures ok { IfOk result (λ row. deletion_of (part id_of (words_of false line.now)) ≡ Ok row) }
     ensures err { IfErr result (λ stop. StopsWith stop (deletion_of (part id_of (words_of false line.now)))) }
 {
-    let mut list = IdList::new(alloc);
-    let rest = ids(line, &mut list)?;
+    scratch.ids.clear();
+    let rest = ids(line, &mut scratch.ids)?;
     if !is_done(rest) {
         return Err(RowStop::Reason(RowReason::L1));
     }
-    Ok(LratRow::Delete { ids: list })
+    let ids = IdList::from_slice(alloc, &scratch.ids)?;
+    Ok(LratRow::Delete { ids })
 }
 
 /// Reads the hints of an addition and what is asked of its clause.
-fn addition_hints(alloc: Global, id: u64, clause: LitList, line: &[u8]) -> Result<LratRow, RowStop>
-    ensures ok { IfOk result (λ row. hints_of id clause (part hint_in (words_of false line.now)) ≡ Ok row) }
-    ensures err { IfErr result (λ stop. StopsWith stop (hints_of id clause (part hint_in (words_of false line.now)))) }
+fn addition_hints(
+    alloc: Global,
+    id: u64,
+    clause: &[Lit],
+    ids: &mut Vec<u64>,
+    line: &[u8],
+) -> Result<LratRow, RowStop>
+    ensures ok { IfOk result (λ row. hints_of id clause.now (part hint_in (words_of false line.now)) ≡ Ok row) }
+    ensures err { IfErr result (λ stop. StopsWith stop (hints_of id clause.now (part hint_in (words_of false line.now)))) }
 {
-    let mut list = Vec::with_capacity(alloc, MANY_HINTS)?;
-    let rest = hints(line, &mut list)?;
+    ids.clear();
+    let (rest, negative) = hints(line, ids)?;
     if !is_done(rest) {
         return Err(RowStop::Reason(RowReason::L1));
     }
-    if has_both(alloc, clause.as_slice())? {
+    if has_both(alloc, clause)? {
         return Err(RowStop::Reason(RowReason::L1));
     }
-    if has_negative(list.as_slice()) {
+    if negative {
         return Err(RowStop::Reason(RowReason::L6));
     }
-    let hints = sizes(alloc, list.as_slice())?;
+    let clause = LitList::from_slice(alloc, clause)?;
+    let hints = IdList::from_slice(alloc, ids)?;
     Ok(LratRow::Add { id, clause, hints })
 }
 
 /// Reads an addition behind its id.
-fn addition(alloc: Global, id: u64, line: &[u8]) -> Result<LratRow, RowStop>
+fn addition(alloc: Global, scratch: &mut Scratch, id: u64, line: &[u8]) -> Result<LratRow, RowStop>
     ensures ok { IfOk result (λ row. addition_of id (part literal_in (words_of false line.now)) ≡ Ok row) }
     ensures err { IfErr result (λ stop. StopsWith stop (addition_of id (part literal_in (words_of false line.now)))) }
 {
-    let mut clause = LitList::new(alloc);
-    let rest = literals(line, &mut clause)?;
-    addition_hints(alloc, id, clause, rest)
+    scratch.clause.clear();
+    let rest = literals(line, &mut scratch.clause)?;
+    addition_hints(alloc, id, scratch.clause.as_slice(), &mut scratch.ids, rest)
 }
 
 /// Reads a row.
-fn row(alloc: Global, line: &[u8]) -> Result<LratRow, RowStop>
+fn row(alloc: Global, scratch: &mut Scratch, line: &[u8]) -> Result<LratRow, RowStop>
     ensures ok { IfOk result (λ row. row_of (words_of false line.now) ≡ Ok row) }
     ensures err { IfErr result (λ stop. StopsWith stop (row_of (words_of false line.now))) }
 {
-    let Some((word, rest)) = next_word(line, false) else {
+    let Some((token, rest)) = next_token(line) else {
         return Err(RowStop::Reason(RowReason::L1));
     };
-    let Some(id) = natural(word, MOST) else {
+    let Some(id) = token.id() else {
         return Err(RowStop::Reason(RowReason::L1));
     };
     match next_word(rest, false) {
         Some((first, after)) => {
             if is_deletion(first) {
-                deletion(alloc, after)
+                deletion(alloc, scratch, after)
             } else {
-                addition(alloc, id, rest)
+                addition(alloc, scratch, id, rest)
             }
         }
         None => Err(RowStop::Reason(RowReason::L1)),
@@ -280,7 +274,13 @@ fn stop_at(row: u64, stop: RowStop) -> RefuteStop
 }
 
 /// Adds the row of a line that is not skipped, after so many rows, and gives the number of rows.
-fn add_line(alloc: Global, log: &mut LratLog, rows: u64, line: &[u8]) -> Result<u64, RefuteStop>
+fn add_line(
+    alloc: Global,
+    scratch: &mut Scratch,
+    log: &mut LratLog,
+    rows: u64,
+    line: &[u8],
+) -> Result<u64, RefuteStop>
     requires { rows + 1 < 2 ^ 64 }
     ensures ok { IfOk result (λ n. (lines : List (List ℕ)) → rows_from rows log.old (line.now ∷ lines) ≡ rows_from n log.new lines) }
     ensures few { IfOk result (λ n. n ≤ rows + 1) }
@@ -289,7 +289,7 @@ fn add_line(alloc: Global, log: &mut LratLog, rows: u64, line: &[u8]) -> Result<
     if is_skipped(line) {
         return Ok(rows);
     }
-    match row(alloc, line) {
+    match row(alloc, scratch, line) {
         Ok(row) => {
             log.push(row)?;
             Ok(rows + 1)
@@ -308,11 +308,15 @@ pub fn read_log(alloc: Global, text: &[u8]) -> Result<LratLog, RefuteStop>
     ensures { Reads result (log_of text.now) }
 {
     let mut log = LratLog::new(alloc);
+    let mut scratch = Scratch {
+        clause: Vec::new(alloc),
+        ids: Vec::new(alloc),
+    };
     let mut rest = text;
     let mut rows = 0;
     while !rest.is_empty() {
         let (line, after) = split_line(rest);
-        rows = add_line(alloc, &mut log, rows, line)?;
+        rows = add_line(alloc, &mut scratch, &mut log, rows, line)?;
         rest = after;
     }
     Ok(log)

@@ -1,7 +1,7 @@
 //! Clause files and proofs as text, against the answers of the format.
 
-use crate::{RefuteStop, read_log, refutes};
-use hk_cnf::{ClauseList, CnfStop, read_dimacs};
+use crate::{LitList, RefuteStop, read_log, refutes};
+use hk_cnf::{ClauseList, CnfStop, Lit, read_dimacs};
 use std::alloc::{AllocError, Global};
 use std::test::Fail;
 
@@ -106,10 +106,30 @@ fn rows_are_read_to_the_letter(rt: HostRuntime) -> Result<(), Fail> {
         ),
         ("3 1 0 1 2 0\n\n4 0 -2 1 0\n", "refused 2 L6"),
         ("3 d -1 0\n", "refused 1 L1"),
+        ("3\t0\t1\t2\t0\t\n", "refuted"),
+        ("3 0 1x 2 0\n", "refused 1 L1"),
+        ("3 0 -1x 2 0\n", "refused 1 L1"),
+        ("3 0 1 2 0x\n", "refused 1 L1"),
+        ("3 0 922337203685477580 0\n", "refused 1 L3"),
+        ("3 0 9223372036854775807 0\n", "refused 1 L3"),
+        ("3 0 9223372036854775808 0\n", "refused 1 L1"),
     ];
     for (proof, expected) in table {
         let found = answer(rt.alloc(), CONTRARY, proof)?;
         assert_eq!(rt; found.as_str(), expected);
     }
+    Ok(())
+}
+
+#[test]
+fn a_clause_of_two_literals_takes_a_third(rt: HostRuntime) -> Result<(), Fail> {
+    let lits = [
+        Lit::of_place(0),
+        Lit::of_place(1).negated(),
+        Lit::of_place(2),
+    ];
+    let mut list = LitList::from_slice(rt.alloc(), &lits[..2])?;
+    list.push(lits[2])?;
+    assert_eq!(rt; list.as_slice(), lits.as_slice());
     Ok(())
 }

@@ -1,7 +1,7 @@
-use Rattle.std.proofs.Common.{◌≡◌, ℤ, true, cond, neg_ℤ, take, subst, sym, ◌∙◌, ap}
+use Rattle.std.proofs.Common.{true, cond, neg_ℤ, subst, sym, ◌∙◌, ap}
 use Rattle.std.specs.List.{list_any}
 use Rattle.std.specs.Ordering.{int_eq}
-use Rattle.hk_cnf.specs.Literal.{has, IsLiteral}
+use Rattle.hk_cnf.specs.Literal.{IsLiteral}
 use Rattle.hk_lrat.proofs.Denied.{int_eq-flip}
 use Rattle.hk_lrat.proofs.Spelling.{both-found, both-none, seen-more, literal-bits}
 use Rattle.hk_lrat.proofs.log_read.has_both_by_table.Goals as goal
