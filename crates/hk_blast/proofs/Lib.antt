@@ -1,5 +1,0 @@
-pub mod Negated
-pub mod Products
-pub mod Shifts
-pub mod WordArithmetic
-pub mod WordNumbers

@@ -1,0 +1,10 @@
+pub mod BitPairs
+pub mod FarShifts
+pub mod LongDivision
+pub mod Negated
+pub mod Products
+pub mod Shifts
+pub mod SignBits
+pub mod SignedDivision
+pub mod WordArithmetic
+pub mod WordNumbers

@@ -1,0 +1,10 @@
+use Rattle.std.proofs.Common.{◌≡◌, drop, replicate, ◌++◌, ◌∙◌, ap, arith}
+use Rattle.std.proofs.lemmas.Grind.{common_steps}
+use Rattle.hk_circuit.specs.Words.{gate_number}
+use Rattle.hk_circuit.proofs.Shifts.{number-down}
+use Rattle.hk_circuit.proofs.word.shift_down.Goals as goal
+
+pub returns-clause-value : goal.returns-clause-value
+returns-clause-value c = λ d v e.
+    let items : c.extend_from_slice.new.self.items ≡ drop c.args.by c.args.a.now ++ replicate c.args.by c.args.fill = grind (arith, common_steps) in
+    ap (λ ls. gate_number d ls v) items ∙ number-down d c.args.a.now c.args.by c.args.fill v c.requires e

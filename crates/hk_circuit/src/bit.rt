@@ -1,0 +1,129 @@
+//! Circuits over single literals.
+
+ghost use Rattle.std.specs.Prelude.{◌≡◌, ◌≤◌, ◌<◌, ◌&&◌, ◌||◌, ◌+◌, ◌*◌, not, false, ℕ, ℤ, Bool, List, All, if◌then◌else◌, IfOk};
+ghost use Rattle.hk_cnf.specs.Literal.{IsWithin, place_of};
+ghost use Rattle.hk_cnf.specs.Circuit.{Circuit, gate_value};
+ghost use Rattle.hk_cnf.specs.CircuitGrowth.{IsGrown, inputs_of};
+ghost use Rattle.hk_circuit.specs.Words.{differ, majority, gate_number};
+
+use hk_cnf::{Gates, Lit};
+use std::alloc::AllocError;
+
+/// The literal that is false. A table has one variable for it, with one clause.
+pub fn false_literal(gates: &mut Gates) -> Result<Lit, AllocError>
+    ensures vars { gates.old.vars ≤ gates.new.vars }
+    ensures keeps { (l : ℤ) → place_of l < gates.old.vars → (v : ℕ → Bool) → gate_value gates.new l v ≡ gate_value gates.old l v }
+    ensures grows { (c : Circuit) → IsGrown c gates.old → IsGrown c gates.new }
+    ensures inputs { inputs_of gates.new ≡ inputs_of gates.old }
+    ensures keeps_words { (ls : List ℤ) → All (IsWithin gates.old.vars) ls → (v : ℕ → Bool) → gate_number gates.new ls v ≡ gate_number gates.old ls v }
+    ensures within { IfOk result (λ l. IsWithin gates.new.vars l) }
+    ensures value { IfOk result (λ l. (v : ℕ → Bool) → gate_value gates.new l v ≡ false) }
+{
+    let truth = gates.constant()?;
+    Ok(truth.negated())
+}
+
+/// The disjunction: one gate.
+#[tactic(auto, using(crate::proofs::Negated::value_negated))]
+pub fn or(gates: &mut Gates, a: Lit, b: Lit) -> Result<Lit, AllocError>
+    requires first { IsWithin gates.old.vars a }
+    requires second { IsWithin gates.old.vars b }
+    ensures vars { gates.old.vars ≤ gates.new.vars }
+    ensures keeps { (l : ℤ) → place_of l < gates.old.vars → (v : ℕ → Bool) → gate_value gates.new l v ≡ gate_value gates.old l v }
+    ensures grows { (c : Circuit) → IsGrown c gates.old → IsGrown c gates.new }
+    ensures inputs { inputs_of gates.new ≡ inputs_of gates.old }
+    ensures within { IfOk result (λ l. IsWithin gates.new.vars l) }
+    ensures value { IfOk result (λ l. (v : ℕ → Bool) → gate_value gates.new l v ≡ (gate_value gates.old a v || gate_value gates.old b v)) }
+{
+    let neither = gates.and(a.negated(), b.negated())?;
+    Ok(neither.negated())
+}
+
+/// The exclusive disjunction: three gates.
+#[tactic(auto, using(crate::proofs::Negated::value_negated, crate::proofs::Negated::differ_gates))]
+pub fn xor(gates: &mut Gates, a: Lit, b: Lit) -> Result<Lit, AllocError>
+    requires first { IsWithin gates.old.vars a }
+    requires second { IsWithin gates.old.vars b }
+    ensures vars { gates.old.vars ≤ gates.new.vars }
+    ensures keeps { (l : ℤ) → place_of l < gates.old.vars → (v : ℕ → Bool) → gate_value gates.new l v ≡ gate_value gates.old l v }
+    ensures grows { (c : Circuit) → IsGrown c gates.old → IsGrown c gates.new }
+    ensures inputs { inputs_of gates.new ≡ inputs_of gates.old }
+    ensures within { IfOk result (λ l. IsWithin gates.new.vars l) }
+    ensures value { IfOk result (λ l. (v : ℕ → Bool) → gate_value gates.new l v ≡ differ (gate_value gates.old a v) (gate_value gates.old b v)) }
+{
+    let both = gates.and(a, b)?;
+    let neither = gates.and(a.negated(), b.negated())?;
+    let differ = gates.and(both.negated(), neither.negated())?;
+    Ok(differ)
+}
+
+/// The first of two literals where the condition is true, and else the second: three gates.
+#[tactic(auto, using(crate::proofs::Negated::value_negated))]
+pub fn choose(gates: &mut Gates, condition: Lit, a: Lit, b: Lit) -> Result<Lit, AllocError>
+    requires condition { IsWithin gates.old.vars condition }
+    requires first { IsWithin gates.old.vars a }
+    requires second { IsWithin gates.old.vars b }
+    ensures vars { gates.old.vars ≤ gates.new.vars }
+    ensures keeps { (l : ℤ) → place_of l < gates.old.vars → (v : ℕ → Bool) → gate_value gates.new l v ≡ gate_value gates.old l v }
+    ensures grows { (c : Circuit) → IsGrown c gates.old → IsGrown c gates.new }
+    ensures inputs { inputs_of gates.new ≡ inputs_of gates.old }
+    ensures within { IfOk result (λ l. IsWithin gates.new.vars l) }
+    ensures value { IfOk result (λ l. (v : ℕ → Bool) → gate_value gates.new l v ≡ (if gate_value gates.old condition v then gate_value gates.old a v else gate_value gates.old b v)) }
+{
+    let then = gates.and(condition, a)?;
+    let other = gates.and(condition.negated(), b)?;
+    let either = or(gates, then, other)?;
+    Ok(either)
+}
+
+/// A digit of a sum, and what is carried to the next.
+#[derive(Clone, Copy, Debug)]
+pub struct Digit {
+    /// The sum of the literals, modulo 2.
+    pub sum: Lit,
+    /// Whether two of the literals are true.
+    pub carry: Lit,
+}
+
+/// The sum of three literals: seven gates, 21 clauses.
+#[tactic(auto, using(crate::proofs::Negated::value_negated))]
+pub fn full_add(gates: &mut Gates, a: Lit, b: Lit, carry: Lit) -> Result<Digit, AllocError>
+    requires first { IsWithin gates.old.vars a }
+    requires second { IsWithin gates.old.vars b }
+    requires third { IsWithin gates.old.vars carry }
+    ensures vars { gates.old.vars ≤ gates.new.vars }
+    ensures keeps { (l : ℤ) → place_of l < gates.old.vars → (v : ℕ → Bool) → gate_value gates.new l v ≡ gate_value gates.old l v }
+    ensures grows { (c : Circuit) → IsGrown c gates.old → IsGrown c gates.new }
+    ensures inputs { inputs_of gates.new ≡ inputs_of gates.old }
+    ensures sum_within { IfOk result (λ d. IsWithin gates.new.vars d.sum) }
+    ensures carry_within { IfOk result (λ d. IsWithin gates.new.vars d.carry) }
+    ensures sum { IfOk result (λ d. (v : ℕ → Bool) → gate_value gates.new d.sum v ≡ differ (differ (gate_value gates.old a v) (gate_value gates.old b v)) (gate_value gates.old carry v)) }
+    ensures carry { IfOk result (λ d. (v : ℕ → Bool) → gate_value gates.new d.carry v ≡ majority (gate_value gates.old a v) (gate_value gates.old b v) (gate_value gates.old carry v)) }
+{
+    let half = xor(gates, a, b)?;
+    let sum = xor(gates, half, carry)?;
+    let both = gates.and(a, b)?;
+    let carried = gates.and(half, carry)?;
+    let carry = or(gates, both, carried)?;
+    Ok(Digit { sum, carry })
+}
+
+/// Whether one number is below another, from their highest bits and from whether the bits below are: four gates.
+#[tactic(auto, using(crate::proofs::Negated::value_negated))]
+pub fn less_bit(gates: &mut Gates, a: Lit, b: Lit, less: Lit) -> Result<Lit, AllocError>
+    requires first { IsWithin gates.old.vars a }
+    requires second { IsWithin gates.old.vars b }
+    requires rest { IsWithin gates.old.vars less }
+    ensures vars { gates.old.vars ≤ gates.new.vars }
+    ensures keeps { (l : ℤ) → place_of l < gates.old.vars → (v : ℕ → Bool) → gate_value gates.new l v ≡ gate_value gates.old l v }
+    ensures grows { (c : Circuit) → IsGrown c gates.old → IsGrown c gates.new }
+    ensures inputs { inputs_of gates.new ≡ inputs_of gates.old }
+    ensures within { IfOk result (λ l. IsWithin gates.new.vars l) }
+    ensures value { IfOk result (λ l. (v : ℕ → Bool) → gate_value gates.new l v ≡ ((not (gate_value gates.old a v) && gate_value gates.old b v) || (gate_value gates.old less v && not (gate_value gates.old a v && not (gate_value gates.old b v))))) }
+{
+    let below = gates.and(a.negated(), b)?;
+    let above = gates.and(a, b.negated())?;
+    let still = gates.and(less, above.negated())?;
+    let either = or(gates, below, still)?;
+    Ok(either)
+}
