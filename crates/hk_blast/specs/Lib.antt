@@ -1,0 +1,3 @@
+pub mod Blasted
+pub mod Parts
+pub mod Walk
