@@ -35,7 +35,7 @@ Hold-clauses w (g ∷ gs) o h =
     and_parts (list_all (clause_true w) (gate_clauses g)) (list_all (clause_true w) (all_gate_clauses gs)) (sym (list_all-append (clause_true w) (gate_clauses g) (all_gate_clauses gs)) ∙ h) in
     (agree-is (w g.1.output) (operation_true w g.0) (sym (operation_clauses-say w g.1.output g.1.output g.0 o.0) ∙ p.0), Hold-clauses w gs o.1 p.1)
 
-is_output-later : (gs : List Gate) (n p : ℕ) → InOrder n gs → n ≤ p → is_output gs p ≡ false
+pub is_output-later : (gs : List Gate) (n p : ℕ) → InOrder n gs → n ≤ p → is_output gs p ≡ false
 is_output-later [] n p o h = refl
 is_output-later (g ∷ gs) n p o h =
     or_from (eqb p g.1.output) (is_output gs p) (ne_eqb p g.1.output (λ e. absurd (omega (arith, o.0, e)))) (is_output-later gs g.1.output p o.2 (omega (arith, o.0)))
@@ -69,7 +69,7 @@ or-swap true false = refl
 or-swap false true = refl
 or-swap false false = refl
 
-is_output-reverse : (gs : List Gate) (p : ℕ) → is_output (reverse gs) p ≡ is_output gs p
+pub is_output-reverse : (gs : List Gate) (p : ℕ) → is_output (reverse gs) p ≡ is_output gs p
 is_output-reverse [] p = refl
 is_output-reverse (g ∷ gs) p =
     ap (λ x. is_output x p) (reverse-append (g ∷ []) gs)
@@ -82,7 +82,7 @@ is_output-reverse (g ∷ gs) p =
     or-nil false = refl
 
 -- a variable that no gate fixes has the value that was chosen
-run-other : (gs : List Gate) (v : ℕ → Bool) (p : ℕ) → is_output gs p ≡ false → run gs v p ≡ v p
+pub run-other : (gs : List Gate) (v : ℕ → Bool) (p : ℕ) → is_output gs p ≡ false → run gs v p ≡ v p
 run-other [] v p e = refl
 run-other (g ∷ gs) v p e =
     let parts : (eqb p g.1.output ≡ false) × (is_output gs p ≡ false) = or_parts (eqb p g.1.output) (is_output gs p) e in

@@ -1,6 +1,6 @@
 -- A written clause list is read back as the same list.
-use Rattle.std.proofs.Common.{◌≡◌, ◌≢◌, ◌⊎◌, ℕ, zero, suc, ◌+◌, ◌-◌, ◌*◌, ◌^◌, ◌<◌, ◌≤◌, Bool, true, false, not, ◌&&◌, ◌||◌, cond, eqb, leb, List, [], ◌∷◌, ◌++◌, map, length, get_or, ℤ, pos, negsuc, neg_ℤ, Option, Some, None, Result, Ok, Err, IfOk, refl, sym, ◌∙◌, ap, subst, inl, inr, arith}
-use Rattle.std.proofs.lemmas.Bool.{false≢true, ne_eqb, eq-eqb, or_from, and_from, cond-true, cond-false, le-leb}
+use Rattle.std.proofs.Common.{◌≡◌, ◌≢◌, ℕ, zero, suc, ◌+◌, ◌-◌, ◌^◌, ◌<◌, ◌≤◌, true, false, ◌&&◌, ◌||◌, cond, eqb, leb, List, [], ◌∷◌, ◌++◌, map, length, get_or, ℤ, pos, negsuc, Some, None, Result, Ok, Err, IfOk, refl, sym, ◌∙◌, ap, subst, arith}
+use Rattle.std.proofs.lemmas.Bool.{ne_eqb, eq-eqb, or_from, and_from, cond-true, cond-false, le-leb}
 use Rattle.std.proofs.lemmas.List.{append_assoc, append-nil}
 use Rattle.std.proofs.lemmas.List.Elements.{All-nil, All-cons, All-head, All-tail, All-append, All-from_get_or, All-weaker}
 use Rattle.std.proofs.lemmas.Str.Parse.{IsNumeralModel, numerals_by_value, tells_all_ascii_digits, digit_at}
@@ -8,17 +8,15 @@ use Rattle.std.proofs.lemmas.Fmt.{decimal_is_IsNumeral, digits_decimal, digits_v
 use Rattle.std.specs.Int.{IsInRange}
 use Rattle.std.specs.List.{All, flat_map, list_all}
 use Rattle.std.specs.Str.{all_ascii_digits}
-use Rattle.std.specs.Str.Parse.{AllDigits, IsNumeral, digits_value}
+use Rattle.std.specs.Str.Parse.{digits_value}
 use Rattle.std.specs.Fmt.{decimal, signed_decimal}
-use Rattle.std.specs.Cmp.Lexicographic.{pointwise}
-use Rattle.hk_cnf.specs.Literal.{IsLiteral, IsWithin}
+use Rattle.hk_cnf.specs.Literal.{IsWithin}
 use Rattle.hk_cnf.specs.Clauses.{Clauses, AreWithin}
 use Rattle.hk_cnf.specs.Partial.{Partial}
 use Rattle.hk_cnf.specs.Text.{with_first, lines_of, is_blank, word_before, words_of, is_numeral, natural_of, is_minus, unsigned, with_sign, number_in}
-use Rattle.hk_cnf.specs.declared.dimacs_read.CnfReason.{CnfReason}
-use Rattle.hk_cnf.specs.declared.dimacs_read.CnfReason.TheVariants.{C1, C2, C3}
-use Rattle.hk_cnf.specs.Dimacs.{is_nil, is_comment, is_skipped, is_number, pair_of, header_of, with_number, at_number, with_words, with_line, Fault, finished, at_line, from_body, at_header, from_top, dimacs_of}
-use Rattle.hk_cnf.specs.DimacsText.{header_text, literal_text, clause_text, list_text}
+use Rattle.hk_cnf.specs.declared.dimacs_read.CnfReason.TheVariants.{C1, C3}
+use Rattle.hk_cnf.specs.Dimacs.{is_nil, is_comment, is_skipped, is_number, pair_of, header_of, with_number, at_number, with_words, with_line, Fault, at_line, from_body, at_header, from_top, dimacs_of}
+use Rattle.hk_cnf.specs.DimacsText.{literal_text, clause_text, list_text}
 
 -- a byte that is no newline and no `c`
 pub record Plain (b : ℕ) : Type 0 where

@@ -11,4 +11,5 @@ pub mod Layout
 pub mod Literal
 pub mod Partial
 pub mod PartialView
+pub mod Spread
 pub mod Text

@@ -1,5 +1,4 @@
 -- How a clause list is kept while it is read.
-use Rattle.std.specs.Prelude.{List}
 use Rattle.std.specs.List.{All}
 use Rattle.hk_cnf.specs.Literal.{IsWithin}
 use Rattle.hk_cnf.specs.Partial.{Partial}

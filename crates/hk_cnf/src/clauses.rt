@@ -1,29 +1,20 @@
 //! Clause lists.
 
-ghost use Rattle.std.specs.Prelude.{◌≡◌, ◌==◌, ℕ, ◌<◌, ◌≤◌, ◌^◌, ◌++◌, [], ◌∷◌, length, slice_index_or, take, All, OnOk, OnErr};
+ghost use Rattle.std.specs.Prelude.{◌≡◌, ◌==◌, ℕ, ◌<◌, ◌≤◌, ◌^◌, ◌++◌, [], ◌∷◌, length, slice_index_or, slice_range, take, All, OnOk, OnErr};
 ghost use Rattle.hk_cnf.specs.Literal.{IsWithin};
 ghost use Rattle.hk_cnf.specs.Clauses.{AreWithin};
-ghost use Rattle.std.specs.List.{AllPairs};
-ghost use Rattle.hk_cnf.specs.Layout.{IsSpan};
 
 use crate::literal::Lit;
 use std::alloc::{AllocError, Global};
 use std::marker::Model;
 
-/// The part of the row of literals that is one clause's own, from `start` up to `end`.
-#[derive(Clone, Copy, Debug)]
-struct Span {
-    start: usize,
-    end: usize,
-}
-
 /// A number of variables, at most 2^63 - 1, and a list of clauses over them.
-/// The literals of all clauses stand in one row.
+/// The literals of all clauses stand in one row, clause after clause, with the place in it where each clause ends.
 #[derive(Drop)]
 pub struct ClauseList {
     vars: u64,
     lits: Vec<Lit>,
-    spans: Vec<Span>,
+    ends: Vec<usize>,
 }
 
 impl Model for ClauseList {
@@ -47,7 +38,7 @@ impl ClauseList {
         ClauseList {
             vars,
             lits: Vec::new(alloc),
-            spans: Vec::new(alloc),
+            ends: Vec::new(alloc),
         }
     }
 
@@ -64,14 +55,14 @@ impl ClauseList {
         ensures value { result ≡ length self.now.clauses }
         ensures within { AreWithin self.now.vars self.now.clauses }
     {
-        self.spans.len()
+        self.ends.len()
     }
 
     /// Whether there is no clause.
     pub fn is_empty(&self) -> bool
         ensures { result ≡ (length self.now.clauses == 0) }
     {
-        self.spans.is_empty()
+        self.len() == 0
     }
 
     /// The clause at this place, counted from 0.
@@ -80,23 +71,22 @@ impl ClauseList {
         ensures same { result.now ≡ slice_index_or self.now.clauses i [] }
         ensures within { All (IsWithin self.now.vars) result.now }
     {
-        let span = self.spans[i];
-        &self.lits[span.start..span.end]
+        let ends = self.ends.as_slice();
+        let start = start_of(ends, i);
+        let end = end_of(ends, i);
+        part(self.lits.as_slice(), start, end)
     }
 
     /// Adds a clause over the list's variables at the end. Without memory the list is as before.
+    #[inline(always)]
     pub fn push(&mut self, clause: &[Lit]) -> Result<(), AllocError>
         requires { All (IsWithin self.old.vars) clause.now }
         ensures ok { OnOk result (self.new ≡ record self.old { clauses = self.old.clauses ++ clause.now ∷ [] }) }
         ensures err { OnErr result (self.new ≡ self.old) }
     {
-        self.spans.reserve(1)?;
-        let start = self.lits.len();
+        self.ends.reserve(1)?;
         self.lits.extend_from_slice(clause)?;
-        self.spans.push(Span {
-            start,
-            end: self.lits.len(),
-        })?;
+        self.ends.push(self.lits.len())?;
         Ok(())
     }
 
@@ -116,21 +106,34 @@ impl ClauseList {
         requires within { AreWithin vars (take clauses self.old.clauses) }
         ensures { self.new ≡ record { vars = vars; clauses = take clauses self.old.clauses } }
     {
-        let end = kept_end(self.spans.as_slice(), clauses, self.lits.len());
+        let end = start_of(self.ends.as_slice(), clauses);
         self.vars = vars;
         self.lits.truncate(end);
-        self.spans.truncate(clauses);
+        self.ends.truncate(clauses);
     }
 }
 
-/// Where the row of this many literals may be cut when this many clauses are kept.
-fn kept_end(spans: &[Span], clauses: usize, lits: usize) -> usize
-    requires inside { All (IsSpan lits) spans.now }
-    requires in_order { AllPairs (λ s t. s.end ≤ t.start) spans.now }
-    ensures { All (λ s. s.end ≤ result) (take clauses spans.now) }
+/// Where the clause at this place starts, which is where the one before it ends.
+fn start_of(ends: &[usize], i: usize) -> usize
+    requires { i ≤ length ends.now }
+    ensures { result ≡ slice_index_or (0 ∷ ends.now) i 0 }
 {
-    match spans.get(clauses) {
-        Some(span) => span.start,
-        None => lits,
-    }
+    if i == 0 { 0 } else { ends[i - 1] }
+}
+
+/// Where the clause at this place ends.
+fn end_of(ends: &[usize], i: usize) -> usize
+    requires { i < length ends.now }
+    ensures { result ≡ slice_index_or ends.now i 0 }
+{
+    ends[i]
+}
+
+/// The literals of a row from a place up to another.
+fn part(lits: &[Lit], start: usize, end: usize) -> &[Lit]
+    requires rising { start ≤ end }
+    requires inside { end ≤ length lits.now }
+    ensures { result.now ≡ slice_range lits.now start end }
+{
+    &lits[start..end]
 }

@@ -6,6 +6,7 @@ ghost use Rattle.hk_cnf.specs.Literal.{IsWithin};
 ghost use Rattle.hk_cnf.specs.Circuit.{AreOperands, operation_clauses, same_operation, variable, literal_of};
 
 use crate::clauses::ClauseList;
+use crate::direct::Direct;
 use crate::literal::Lit;
 use crate::operation::{Operation, Placed};
 use indexmap::IndexMap;
@@ -45,7 +46,7 @@ fn push_operation(list: &mut ClauseList, output: Lit, op: Operation) -> Result<(
 }
 
 /// The literal of the gate that computes this operation, where there is one.
-pub fn find(gates: &IndexMap<Operation, Placed>, op: Operation) -> Option<Lit>
+pub fn find(gates: &IndexMap<Operation, Placed, Direct>, op: Operation) -> Option<Lit>
     requires { All (λ g. g.1.output + 1 < 2 ^ 63) gates.now.entries }
     ensures { result ≡ literal_of gates.now.entries op }
 {
@@ -59,7 +60,7 @@ pub fn find(gates: &IndexMap<Operation, Placed>, op: Operation) -> Option<Lit>
 /// clauses may stand at the end.
 fn try_add(
     list: &mut ClauseList,
-    gates: &mut IndexMap<Operation, Placed>,
+    gates: &mut IndexMap<Operation, Placed, Direct>,
     op: Operation,
 ) -> Result<Lit, AllocError>
     requires few { list.old.vars + 1 < 2 ^ 63 }
@@ -88,7 +89,7 @@ pub const MOST_VARS: u64 = (1 << 63) - 1;
 /// Adds a gate for an operation that has none. Without memory, and where all variables are used up, all is as before.
 pub fn add(
     list: &mut ClauseList,
-    gates: &mut IndexMap<Operation, Placed>,
+    gates: &mut IndexMap<Operation, Placed, Direct>,
     op: Operation,
 ) -> Result<Lit, AllocError>
     requires operands { AreOperands list.old.vars op }

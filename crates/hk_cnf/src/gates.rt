@@ -9,6 +9,7 @@ ghost use Rattle.hk_cnf.specs.CircuitGrowth.{IsGrown, inputs_of, values_of, Exte
 ghost use Rattle.hk_cnf.specs.Determined.{IsDetermined, IsMixed};
 
 use crate::clauses::ClauseList;
+use crate::direct::Direct;
 use crate::gate_clauses::{MOST_VARS, add, find};
 use crate::literal::Lit;
 use crate::operation::{Operation, Placed};
@@ -33,7 +34,7 @@ pub struct GateSizes {
 #[derive(Drop)]
 pub struct Gates {
     list: ClauseList,
-    gates: IndexMap<Operation, Placed>,
+    gates: IndexMap<Operation, Placed, Direct>,
     truth: Option<Lit>,
 }
 
@@ -66,7 +67,7 @@ impl Gates {
     {
         Gates {
             list: ClauseList::new(alloc, 0),
-            gates: IndexMap::new(alloc),
+            gates: IndexMap::with_hasher(alloc, Direct::new()),
             truth: None,
         }
     }

@@ -8,6 +8,7 @@ mod assignment;
 mod clauses;
 mod dimacs_read;
 mod dimacs_write;
+mod direct;
 mod gate_clauses;
 mod gates;
 mod hint;

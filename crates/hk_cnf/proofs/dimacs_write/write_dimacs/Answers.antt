@@ -1,4 +1,4 @@
-use Rattle.std.proofs.Common.{◌≡◌, ◌<◌, ◌^◌, Ok, length, subst, ap, ◌∙◌, arith}
+use Rattle.std.proofs.Common.{◌≡◌, ◌<◌, ◌^◌, Ok, length, subst, ap, ◌∙◌}
 use Rattle.hk_cnf.specs.Dimacs.{dimacs_of}
 use Rattle.hk_cnf.specs.DimacsText.{list_text}
 use Rattle.hk_cnf.proofs.Written.{list-read, if-ok}
