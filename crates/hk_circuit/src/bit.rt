@@ -39,8 +39,36 @@ pub fn or(gates: &mut Gates, a: Lit, b: Lit) -> Result<Lit, AllocError>
     Ok(neither.negated())
 }
 
-/// The exclusive disjunction: three gates.
+/// A digit of a sum, and what is carried to the next.
+#[derive(Clone, Copy, Debug)]
+pub struct Digit {
+    /// The sum of the literals, modulo 2.
+    pub sum: Lit,
+    /// Whether two of the literals are true.
+    pub carry: Lit,
+}
+
+/// The sum of two literals: three gates, nine clauses.
 #[tactic(auto, using(crate::proofs::Negated::value_negated, crate::proofs::Negated::differ_gates))]
+fn half_add(gates: &mut Gates, a: Lit, b: Lit) -> Result<Digit, AllocError>
+    requires first { IsWithin gates.old.vars a }
+    requires second { IsWithin gates.old.vars b }
+    ensures vars { gates.old.vars ≤ gates.new.vars }
+    ensures keeps { (l : ℤ) → place_of l < gates.old.vars → (v : ℕ → Bool) → gate_value gates.new l v ≡ gate_value gates.old l v }
+    ensures grows { (c : Circuit) → IsGrown c gates.old → IsGrown c gates.new }
+    ensures inputs { inputs_of gates.new ≡ inputs_of gates.old }
+    ensures sum_within { IfOk result (λ d. IsWithin gates.new.vars d.sum) }
+    ensures carry_within { IfOk result (λ d. IsWithin gates.new.vars d.carry) }
+    ensures sum { IfOk result (λ d. (v : ℕ → Bool) → gate_value gates.new d.sum v ≡ differ (gate_value gates.old a v) (gate_value gates.old b v)) }
+    ensures carry { IfOk result (λ d. (v : ℕ → Bool) → gate_value gates.new d.carry v ≡ (gate_value gates.old a v && gate_value gates.old b v)) }
+{
+    let both = gates.and(a, b)?;
+    let neither = gates.and(a.negated(), b.negated())?;
+    let sum = gates.and(both.negated(), neither.negated())?;
+    Ok(Digit { sum, carry: both })
+}
+
+/// The exclusive disjunction: three gates.
 pub fn xor(gates: &mut Gates, a: Lit, b: Lit) -> Result<Lit, AllocError>
     requires first { IsWithin gates.old.vars a }
     requires second { IsWithin gates.old.vars b }
@@ -51,10 +79,8 @@ pub fn xor(gates: &mut Gates, a: Lit, b: Lit) -> Result<Lit, AllocError>
     ensures within { IfOk result (λ l. IsWithin gates.new.vars l) }
     ensures value { IfOk result (λ l. (v : ℕ → Bool) → gate_value gates.new l v ≡ differ (gate_value gates.old a v) (gate_value gates.old b v)) }
 {
-    let both = gates.and(a, b)?;
-    let neither = gates.and(a.negated(), b.negated())?;
-    let differ = gates.and(both.negated(), neither.negated())?;
-    Ok(differ)
+    let digit = half_add(gates, a, b)?;
+    Ok(digit.sum)
 }
 
 /// The first of two literals where the condition is true, and else the second: three gates.
@@ -76,17 +102,7 @@ pub fn choose(gates: &mut Gates, condition: Lit, a: Lit, b: Lit) -> Result<Lit, 
     Ok(either)
 }
 
-/// A digit of a sum, and what is carried to the next.
-#[derive(Clone, Copy, Debug)]
-pub struct Digit {
-    /// The sum of the literals, modulo 2.
-    pub sum: Lit,
-    /// Whether two of the literals are true.
-    pub carry: Lit,
-}
-
 /// The sum of three literals: seven gates, 21 clauses.
-#[tactic(auto, using(crate::proofs::Negated::value_negated))]
 pub fn full_add(gates: &mut Gates, a: Lit, b: Lit, carry: Lit) -> Result<Digit, AllocError>
     requires first { IsWithin gates.old.vars a }
     requires second { IsWithin gates.old.vars b }
@@ -100,12 +116,13 @@ pub fn full_add(gates: &mut Gates, a: Lit, b: Lit, carry: Lit) -> Result<Digit, 
     ensures sum { IfOk result (λ d. (v : ℕ → Bool) → gate_value gates.new d.sum v ≡ differ (differ (gate_value gates.old a v) (gate_value gates.old b v)) (gate_value gates.old carry v)) }
     ensures carry { IfOk result (λ d. (v : ℕ → Bool) → gate_value gates.new d.carry v ≡ majority (gate_value gates.old a v) (gate_value gates.old b v) (gate_value gates.old carry v)) }
 {
-    let half = xor(gates, a, b)?;
-    let sum = xor(gates, half, carry)?;
-    let both = gates.and(a, b)?;
-    let carried = gates.and(half, carry)?;
-    let carry = or(gates, both, carried)?;
-    Ok(Digit { sum, carry })
+    let half = half_add(gates, a, b)?;
+    let whole = half_add(gates, half.sum, carry)?;
+    let carry = or(gates, half.carry, whole.carry)?;
+    Ok(Digit {
+        sum: whole.sum,
+        carry,
+    })
 }
 
 /// Whether one number is below another, from their highest bits and from whether the bits below are: four gates.
