@@ -3,6 +3,7 @@ pub mod BlastedLaws
 pub mod Bottoms
 pub mod FreshWords
 pub mod NodeLaws
+pub mod OnlyInputs
 pub mod Unfixed
 pub mod WaitLaws
 pub mod WordLists

@@ -2,11 +2,10 @@
 use Rattle.std.proofs.Common.{◌≡◌, ◌≢◌, ◌⊎◌, inl, inr, ℕ, ◌<◌, Bool, true, false, ◌||◌, cond, eqb, List, [], ◌∷◌, reverse, refl, sym, ◌∙◌, ap, arith}
 use Rattle.std.specs.List.{All}
 use Rattle.std.proofs.lemmas.Bool.{cases_eq, eq-eqb, ne_eqb}
-use Rattle.std.proofs.lemmas.List.{reverse-append}
-use Rattle.std.proofs.lemmas.List.Folds.{list_any-append}
 use Rattle.hk_cnf.specs.Circuit.{Gate, Circuit, run, gate_value, variable, operation_true}
 use Rattle.hk_cnf.specs.CircuitParts.{InOrder, IsCircuit}
 use Rattle.hk_cnf.specs.Determined.{is_output}
+use Rattle.hk_cnf.proofs.Determination.{is_output-reverse}
 use Rattle.hk_cnf.proofs.Running.{lit_true-variable, operation_true-same, with_value-other, run-local}
 use Rattle.hk_term.specs.declared.node.Node.{Node}
 use Rattle.hk_blast.specs.Blasted.{Words, input_places, AreBlasted}
@@ -35,27 +34,9 @@ depends (g ∷ gs) n p v w o e same = pick (cases_eq p g.1.output) (λ k. depend
         with_value-other (run gs v) g.1.output (operation_true (run gs v) g.0) p ne
         ∙ (go (rest ne) ∙ sym (with_value-other (run gs w) g.1.output (operation_true (run gs w) g.0) p ne))
 
-or-swap : (x y : Bool) → (x || y) ≡ (y || x)
-or-swap true true = refl
-or-swap true false = refl
-or-swap false true = refl
-or-swap false false = refl
-
-or-nil : (x : Bool) → (x || false) ≡ x
-or-nil true = refl
-or-nil false = refl
-
-output-reverse : (gs : List Gate) (p : ℕ) → is_output (reverse gs) p ≡ is_output gs p
-output-reverse [] p = refl
-output-reverse (g ∷ gs) p =
-    ap (λ x. is_output x p) (reverse-append (g ∷ []) gs)
-    ∙ (list_any-append (λ f. eqb p f.1.output) (reverse gs) (g ∷ [])
-    ∙ (or-swap (is_output (reverse gs) p) (eqb p g.1.output || false)
-    ∙ (λ i. or-nil (eqb p g.1.output) i || output-reverse gs p i)))
-
-unfixed : (c : Circuit) (p : ℕ) → IsCircuit c → ((v : ℕ → Bool) → gate_value c (variable p) v ≡ v p) → is_output c.gates p ≡ false
+pub unfixed : (c : Circuit) (p : ℕ) → IsCircuit c → ((v : ℕ → Bool) → gate_value c (variable p) v ≡ v p) → is_output c.gates p ≡ false
 unfolding gate_value
-unfixed c p h free = sym (output-reverse c.gates p) ∙ pick (is_output (reverse c.gates) p) refl
+unfixed c p h free = sym (is_output-reverse c.gates p) ∙ pick (is_output (reverse c.gates) p) refl
   where
     low : ℕ → Bool
     low q = false

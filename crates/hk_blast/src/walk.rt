@@ -1,6 +1,6 @@
 //! The walk over the parts of a term, with a list of the terms that wait in place of a recursion.
 
-ghost use Rattle.std.specs.Prelude.{◌≡◌, ◌⊎◌, ◌≤◌, ◌<◌, true, false, ℕ, ℤ, Bool, List, IfOk, OnOk, IfNone, IfSome, length, reverse, Some, All};
+ghost use Rattle.std.specs.Prelude.{◌≡◌, ◌⊎◌, ◌≤◌, ◌<◌, true, false, ℕ, ℤ, Bool, List, IfOk, OnOk, IfNone, IfSome, length, reverse, Some, All, Contains};
 ghost use Rattle.hk_cnf.specs.Literal.{IsWithin, place_of};
 ghost use Rattle.hk_cnf.specs.Clauses.{clauses_value};
 ghost use Rattle.hk_cnf.specs.Circuit.{Circuit, gate_value};
@@ -175,6 +175,7 @@ pub fn blast(
     ensures only { (k : ℕ) → HasWord bits.new k → (HasWord bits.old k) ⊎ (Needs terms.now t k) }
     ensures inputs { OnOk result (AddsInputs terms.now gates.old gates.new bits.old bits.new) }
     ensures unfixed { All (λ p. is_output gates.new.gates p ≡ false) (input_places terms.now bits.new) }
+    ensures only_inputs { OnOk result ((p : ℕ) → gates.old.vars ≤ p → p < gates.new.vars → is_output gates.new.gates p ≡ false → Contains (input_places terms.now bits.new) p) }
     ensures extends { (a : List Bool) → length a ≡ gates.old.vars → clauses_value a gates.old.clauses ≡ true → (chosen : ℕ → Bool) → ExtendsBy terms.now gates.new bits.new a chosen }
     ensures values { (a : List Bool) → clauses_value a gates.new.clauses ≡ true → HaveValues terms.now a bits.new }
 {

@@ -1,4 +1,5 @@
 use Rattle.std.proofs.Common.{arith}
+use Rattle.std.proofs.lemmas.Result.{on_ok_weaker}
 use Rattle.hk_cnf.proofs.CircuitLaws.{IsGrown-refl}
 use Rattle.hk_cnf.proofs.CircuitValues.{gate_value-satisfied}
 use Rattle.hk_circuit.proofs.WordNumbers.{words}
@@ -6,6 +7,7 @@ use Rattle.hk_blast.proofs.BlastedLaws.{have-values}
 use Rattle.hk_blast.proofs.AssignmentLaws.{extends-by}
 use Rattle.hk_blast.proofs.NodeLaws.{lengthens-none}
 use Rattle.hk_blast.proofs.Unfixed.{inputs-unfixed}
+use Rattle.hk_blast.proofs.OnlyInputs.{only-inputs}
 use Rattle.hk_blast.proofs.walk.blast.Goals as goal
 
 pub returns-clause-keeps_words : goal.returns-clause-keeps_words
@@ -27,3 +29,12 @@ returns-clause-lengthens c =
 
 pub returns-clause-unfixed : goal.returns-clause-unfixed
 returns-clause-unfixed c = inputs-unfixed c.args.terms.now c.blast_new-done.new.gates c.blast_new-done.new.bits c.sizes-2.ensures.circuit c.blast_new-done.ensures.table
+
+pub returns-clause-only_inputs : goal.returns-clause-only_inputs
+returns-clause-only_inputs c =
+    let e = c.blast_new-done.ensures in
+    let first = c.args.gates.now.vars in
+    on_ok_weaker c.blast_new-done.result
+    (only-inputs c.args.terms.now c.args.gates.now c.blast_new-done.new.gates c.args.bits.now c.blast_new-done.new.bits c.sizes.ensures.circuit c.sizes-2.ensures.circuit e.keeps e.table
+    (e.lengthens first c.args.bits.now (omega arith) (lengthens-none c.args.terms.now first c.args.bits.now)))
+    e.inputs
