@@ -220,6 +220,38 @@ fn kernels_are_refused_at_what_fails_first(rt: HostRuntime) -> Result<(), Fail> 
     Ok(())
 }
 
+/// A text with newlines behind it, so many bytes in all or more.
+fn padded(rt: &HostRuntime, text: &str, size: usize) -> Result<String, Fail> {
+    let alloc = rt.alloc();
+    let mut bytes = Vec::from_slice(alloc, text.as_bytes())?;
+    bytes.resize(size.max(text.len()), b'\n')?;
+    Ok(String::from_utf8(bytes).unwrap_or(String::new(alloc)))
+}
+
+#[test]
+fn files_are_read_up_to_their_limits(rt: HostRuntime) -> Result<(), Fail> {
+    let table = [
+        (16_777_216, 1_048_576, "init holds\naccept tick\n", 0),
+        (16_777_217, 0, "long K\n", 3),
+        (0, 1_048_577, "long S\n", 3),
+    ];
+    for (kernel, spec, shown, status) in table {
+        let kernel = padded(&rt, COUNTER, kernel)?;
+        let spec = padded(&rt, COUNTS, spec)?;
+        let none = Vec::new(rt.alloc());
+        let (answer, sink) = verify(
+            &rt,
+            kernel.as_str(),
+            spec.as_str(),
+            none,
+            Vec::new(rt.alloc()),
+        )?;
+        assert!(rt; sink.bytes() == shown.as_bytes());
+        assert_eq!(rt; answer.status, status);
+    }
+    Ok(())
+}
+
 /// A call of the outside that fails, and what it leaves.
 #[derive(Drop)]
 struct Failure {
