@@ -1,5 +1,6 @@
 pub mod Numbers
 pub mod Places
+pub mod FirstPlaces
 pub mod Steps
 pub mod Until
 pub mod Refusals

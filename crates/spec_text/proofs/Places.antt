@@ -9,7 +9,7 @@ prefix_len-map : {X Y : Type 0} (p : Y → Bool) (f : X → Y) (xs : List X) →
 prefix_len-map p f [] = refl
 prefix_len-map p f (x ∷ xs) = rw (prefix_len-map p f xs) refl
 
-length-map : {X Y : Type 0} (f : X → Y) (xs : List X) → length (map f xs) ≡ length xs
+pub length-map : {X Y : Type 0} (f : X → Y) (xs : List X) → length (map f xs) ≡ length xs
 length-map f [] = refl
 length-map f (x ∷ xs) = rw (length-map f xs) refl
 
@@ -18,6 +18,3 @@ position-map p f xs = rw (prefix_len-map (λ y. not (p y)) f xs, length-map f xs
 
 pub place_texts : (n : List ℕ) (names : List (Bor (List ℕ))) → place_of n (texts names) ≡ position (λ w. bytes_eq n w.now) names
 place_texts n names = position-map (bytes_eq n) (λ w. w.now) names
-
-pub place_names : {X : Type 0} (n : List ℕ) (name : X → List ℕ) (xs : List X) → place_of n (map name xs) ≡ position (λ x. bytes_eq n (name x)) xs
-place_names n name xs = position-map (bytes_eq n) name xs

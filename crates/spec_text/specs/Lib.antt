@@ -5,5 +5,6 @@ pub mod Reading
 pub mod Views
 pub mod Texts
 pub mod Front
+pub mod Firsts
 pub mod Refusing
 pub mod Parts

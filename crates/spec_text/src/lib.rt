@@ -7,6 +7,7 @@
 
 mod expr;
 pub mod fault;
+mod index;
 mod line;
 mod names;
 mod production;

@@ -14,6 +14,7 @@ ghost use Rattle.spec_text.specs.Parts.{moved as moved_of, fielded as fielded_of
 
 use crate::expr::write;
 use crate::fault::{SpecFault, SpecReason, SpecStop, Stop};
+use crate::index::Index;
 use crate::line::{Line, lines};
 use crate::names::Names;
 use crate::production::{
@@ -195,7 +196,7 @@ fn writes<'l, 't>(
 #[tactic(auto, unfolding(crate::specs::Parts::written))]
 fn written<'l, 't>(
     alloc: Global,
-    kernel: &Kernel,
+    kernel: &Index,
     fields: &Names,
     number: u32,
     name: &[u8],
@@ -203,7 +204,6 @@ fn written<'l, 't>(
     copy: &[u8],
     lines: &'l [Line<'t>],
 ) -> Result<Transition, Stop>
-    requires { length kernel.now.functions < 2 ^ 32 }
     ensures value { Gives (λ t. t) result (written_of kernel.now fields.now name.now scope.now copy.now (said lines.now)) }
     ensures within { IfOk result (λ t. length t.writes + 1 ≤ length lines.now) }
 {
@@ -217,14 +217,13 @@ fn written<'l, 't>(
 #[tactic(auto, unfolding(crate::specs::Parts::copied))]
 fn copied<'l, 't>(
     alloc: Global,
-    kernel: &Kernel,
+    kernel: &Index,
     fields: &Names,
     number: u32,
     name: &[u8],
     parameters: &[&'l [u8]],
     lines: &'l [Line<'t>],
 ) -> Result<Transition, Stop>
-    requires { length kernel.now.functions < 2 ^ 32 }
     ensures value { Gives (λ t. t) result (copied_of kernel.now fields.now name.now (texts parameters.now) (said lines.now)) }
     ensures within { IfOk result (λ t. length t.writes + 2 ≤ length lines.now) }
 {
@@ -242,11 +241,10 @@ fn copied<'l, 't>(
 #[tactic(auto, unfolding(crate::specs::Reading::transition_at, crate::specs::Parts::copied))]
 fn transition_at<'l, 't>(
     alloc: Global,
-    kernel: &Kernel,
+    kernel: &Index,
     fields: &Names,
     lines: &'l [Line<'t>],
 ) -> Result<Transition, Stop>
-    requires { length kernel.now.functions < 2 ^ 32 }
     ensures value { Gives (λ t. t) result (transition_at_of kernel.now fields.now (said lines.now)) }
     ensures within { IfOk result (λ t. length t.writes + 3 ≤ length lines.now) }
 {
@@ -270,11 +268,10 @@ fn transition_at<'l, 't>(
 /// The transitions that all of the lines are.
 fn transitions<'l, 't>(
     alloc: Global,
-    kernel: &Kernel,
+    kernel: &Index,
     fields: &Names,
     lines: &'l [Line<'t>],
 ) -> Result<Vec<Transition>, Stop>
-    requires { length kernel.now.functions < 2 ^ 32 }
     ensures { Gives (λ v. v.items) result (transitions_of kernel.now fields.now (said lines.now)) }
 {
     let mut transitions = Vec::new(alloc);
@@ -330,14 +327,13 @@ fn checked(
 #[tactic(auto, unfolding(crate::specs::Parts::moved))]
 fn moved<'l, 't>(
     alloc: Global,
-    kernel: &Kernel,
+    kernel: &Index,
     class: &[u8],
     number: u32,
     fields: Seq<Field>,
     scope: &Names,
     lines: &'l [Line<'t>],
 ) -> Result<Spec, Stop>
-    requires { length kernel.now.functions < 2 ^ 32 }
     ensures { Gives (λ s. s) result (moved_of kernel.now class.now fields scope.now (said lines.now)) }
 {
     let transitions = transitions(alloc, kernel, scope, lines)?;
@@ -348,14 +344,12 @@ fn moved<'l, 't>(
 #[tactic(auto, unfolding(crate::specs::Parts::fielded))]
 fn fielded<'l, 't>(
     alloc: Global,
-    kernel: &Kernel,
+    kernel: &Index,
     class: &[u8],
     number: u32,
     names: &[&'l [u8]],
     lines: &'l [Line<'t>],
 ) -> Result<Spec, Stop>
-    requires globals { length kernel.now.globals < 2 ^ 32 }
-    requires functions { length kernel.now.functions < 2 ^ 32 }
     ensures { Gives (λ s. s) result (fielded_of kernel.now class.now (texts names.now) (said lines.now)) }
 {
     match lines {
@@ -377,13 +371,11 @@ fn fielded<'l, 't>(
 #[tactic(auto, unfolding(crate::specs::Reading::classed_of))]
 fn classed<'l, 't>(
     alloc: Global,
-    kernel: &Kernel,
+    kernel: &Index,
     class: &[u8],
     number: u32,
     lines: &'l [Line<'t>],
 ) -> Result<Spec, Stop>
-    requires globals { length kernel.now.globals < 2 ^ 32 }
-    requires functions { length kernel.now.functions < 2 ^ 32 }
     ensures { Gives (λ s. s) result (classed_of kernel.now class.now (said lines.now)) }
 {
     let names = field_names(alloc, lines)?;
@@ -399,9 +391,7 @@ fn classed<'l, 't>(
 
 /// The specification of lines.
 #[tactic(auto, unfolding(crate::specs::Reading::spec_of))]
-fn spec<'l, 't>(alloc: Global, kernel: &Kernel, lines: &'l [Line<'t>]) -> Result<Spec, Stop>
-    requires globals { length kernel.now.globals < 2 ^ 32 }
-    requires functions { length kernel.now.functions < 2 ^ 32 }
+fn spec<'l, 't>(alloc: Global, kernel: &Index, lines: &'l [Line<'t>]) -> Result<Spec, Stop>
     ensures { Gives (λ s. s) result (spec_of kernel.now (said lines.now)) }
 {
     match lines {
@@ -416,16 +406,23 @@ fn spec<'l, 't>(alloc: Global, kernel: &Kernel, lines: &'l [Line<'t>]) -> Result
     }
 }
 
-/// The specification of a text, for a kernel whose places fit a `u32`.
+/// The specification of a text, for a kernel with its index.
 #[tactic(auto, unfolding(crate::specs::Reading::text_of))]
-fn placed(alloc: Global, text: &[u8], kernel: &Kernel) -> Result<Spec, Stop>
-    requires short { length text.now < 2 ^ 31 }
-    requires globals { length kernel.now.globals < 2 ^ 32 }
-    requires functions { length kernel.now.functions < 2 ^ 32 }
+fn indexed(alloc: Global, text: &[u8], kernel: &Index) -> Result<Spec, Stop>
+    requires { length text.now < 2 ^ 31 }
     ensures { Gives (λ s. s) result (text_of kernel.now text.now) }
 {
     let lines = lines(alloc, text)?;
     spec(alloc, kernel, &lines)
+}
+
+/// The specification of a text. Where a place of the kernel does not fit a `u32`, memory is wanting.
+fn placed(alloc: Global, text: &[u8], kernel: &Kernel) -> Result<Spec, Stop>
+    requires { length text.now < 2 ^ 31 }
+    ensures { Gives (λ s. s) result (text_of kernel.now text.now) }
+{
+    let index = Index::of(alloc, kernel)?;
+    indexed(alloc, text, &index)
 }
 
 /// The specification of a text. Where a place does not fit a `u32`, memory is wanting.
@@ -435,9 +432,6 @@ fn read(alloc: Global, text: &[u8], kernel: &Kernel) -> Result<Spec, Stop>
     ensures fields { IfOk result (λ s. length s.fields < 2 ^ 32) }
     ensures transitions { IfOk result (λ s. length s.transitions < 2 ^ 32) }
 {
-    if kernel.globals.len() > u32::MAX as usize || kernel.functions.len() > u32::MAX as usize {
-        return Err(Stop::Memory);
-    }
     let spec = placed(alloc, text, kernel)?;
     if spec.fields.len() > u32::MAX as usize || spec.transitions.len() > u32::MAX as usize {
         return Err(Stop::Memory);

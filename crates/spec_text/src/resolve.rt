@@ -1,79 +1,27 @@
 //! What names say: fields find their globals, and transitions their functions.
 
-ghost use Rattle.std.specs.Prelude.{◌≡◌, ◌<◌, ◌^◌, ℕ, length, map, not, ◌&&◌, IfSome, IfOk, position as position_by, bytes_eq};
-ghost use Rattle.spec_text.specs.Spelling.{global_names, function_names, place_of, each, field_for as field_for_of, fields_for, is_reserved as is_reserved_of, are_local as are_local_of, function_for, with_arity as with_arity_of};
+ghost use Rattle.std.specs.Prelude.{◌≡◌, map, IfSome, IfOk};
+ghost use Rattle.spec_text.specs.Spelling.{each, field_for as field_for_of, fields_for, is_reserved as is_reserved_of, are_local as are_local_of};
 ghost use Rattle.spec_text.specs.Reading.{made};
 ghost use Rattle.spec_text.specs.Texts.{texts, Finds};
-ghost use Rattle.spec_text.specs.Views.{equations as equations_said, Gives};
+ghost use Rattle.spec_text.specs.Views.{equations as equations_said};
 
+use crate::index::Index;
 use crate::names::Names;
 use crate::production::Equation;
 use hk_seq::Seq;
-use ir_thin::tree::{Function, Global as Scalar, Kernel};
 use spec_thin::tree::{Field, Transition, Write};
 use std::alloc::{AllocError, Global};
-
-fn global_position(globals: &[Scalar], name: &[u8]) -> Option<usize>
-    ensures value { result ≡ position_by (λ g. bytes_eq name.now g.name) globals.now }
-    ensures within { IfSome result (λ place. place < length globals.now) }
-{
-    globals.iter().position(|g| name == g.name.as_slice())
-}
-
-/// The place of the kernel's global of this name.
-#[tactic(auto, using(crate::proofs::Places::place_names))]
-fn global(kernel: &Kernel, name: &[u8]) -> Option<u32>
-    requires { length kernel.now.globals < 2 ^ 32 }
-    ensures { result ≡ place_of name.now (global_names kernel.now) }
-{
-    match global_position(kernel.globals.as_slice(), name) {
-        Some(place) => Some(place as u32),
-        None => None,
-    }
-}
-
-fn function_position(functions: &[Function], name: &[u8]) -> Option<usize>
-    ensures value { result ≡ position_by (λ f. bytes_eq name.now f.name) functions.now }
-    ensures within { IfSome result (λ place. place < length functions.now) }
-{
-    functions.iter().position(|f| name == f.name.as_slice())
-}
-
-/// The place of a function, if it has so many parameters.
-fn with_arity(kernel: &Kernel, place: usize, parameters: u32) -> Option<u32>
-    requires few { length kernel.now.functions < 2 ^ 32 }
-    requires within { place < length kernel.now.functions }
-    ensures { result ≡ with_arity_of kernel.now parameters place }
-{
-    if kernel.functions.at(place).parameters == parameters {
-        Some(place as u32)
-    } else {
-        None
-    }
-}
-
-/// The place of the kernel's function of this name, if it has so many parameters.
-#[tactic(auto, using(crate::proofs::Places::place_names))]
-fn function(kernel: &Kernel, name: &[u8], parameters: u32) -> Option<u32>
-    requires { length kernel.now.functions < 2 ^ 32 }
-    ensures { result ≡ function_for kernel.now name.now parameters }
-{
-    match function_position(kernel.functions.as_slice(), name) {
-        Some(place) => with_arity(kernel, place, parameters),
-        None => None,
-    }
-}
 
 /// The field of this name, with the global of its equation. `table` has the equations' fields in their order.
 fn field<'l>(
     alloc: Global,
-    kernel: &Kernel,
+    kernel: &Index,
     table: &Names,
     equations: &[Equation<'l>],
     name: &[u8],
 ) -> Result<Option<Field>, AllocError>
-    requires few { length kernel.now.globals < 2 ^ 32 }
-    requires tabled { table.now ≡ map (λ e. e.0) (equations_said equations.now) }
+    requires { table.now ≡ map (λ e. e.0) (equations_said equations.now) }
     ensures { Finds (λ field. field) result (field_for_of kernel.now (equations_said equations.now) name.now) }
 {
     let Some(place) = table.place(name) else {
@@ -82,7 +30,7 @@ fn field<'l>(
     let Some(equation) = equations.get(place as usize) else {
         return Ok(None);
     };
-    let Some(global) = global(kernel, equation.global) else {
+    let Some(global) = kernel.global(equation.global) else {
         return Ok(None);
     };
     Ok(Some(Field {
@@ -108,13 +56,12 @@ fn equation_fields<'l>(
 /// The fields of these names, each with the global of its equation. `table` has the equations' fields in their order.
 fn each_field<'l>(
     alloc: Global,
-    kernel: &Kernel,
+    kernel: &Index,
     table: &Names,
     equations: &[Equation<'l>],
     names: &[&'l [u8]],
 ) -> Result<Option<Seq<Field>>, AllocError>
-    requires few { length kernel.now.globals < 2 ^ 32 }
-    requires tabled { table.now ≡ map (λ e. e.0) (equations_said equations.now) }
+    requires { table.now ≡ map (λ e. e.0) (equations_said equations.now) }
     ensures { Finds (λ fields. fields) result (each (field_for_of kernel.now (equations_said equations.now)) (texts names.now)) }
 {
     let mut fields = Vec::new(alloc);
@@ -130,11 +77,10 @@ fn each_field<'l>(
 /// The fields of these names, each with its global, if each has one equation and there are no others.
 pub fn fields<'l>(
     alloc: Global,
-    kernel: &Kernel,
+    kernel: &Index,
     equations: &[Equation<'l>],
     names: &[&'l [u8]],
 ) -> Result<Option<Seq<Field>>, AllocError>
-    requires { length kernel.now.globals < 2 ^ 32 }
     ensures { Finds (λ fields. fields) result (fields_for kernel.now (equations_said equations.now) (texts names.now)) }
 {
     if equations.len() != names.len() {
@@ -171,20 +117,19 @@ fn are_local(parameters: &Names, copy: &[u8]) -> bool
 #[tactic(auto, unfolding(crate::specs::Reading::made))]
 pub fn transition(
     alloc: Global,
-    kernel: &Kernel,
+    kernel: &Index,
     name: &[u8],
     parameters: &Names,
     copy: &[u8],
     writes: Seq<Write>,
 ) -> Result<Option<Transition>, AllocError>
-    requires { length kernel.now.functions < 2 ^ 32 }
     ensures value { Finds (λ t. t) result (made kernel.now name.now parameters.now copy.now writes) }
     ensures kept { IfOk result (λ made. IfSome made (λ t. t.writes ≡ writes)) }
 {
     if is_reserved(name) || !are_local(parameters, copy) {
         return Ok(None);
     }
-    let Some(function) = function(kernel, name, parameters.count()) else {
+    let Some(function) = kernel.function(name, parameters.count()) else {
         return Ok(None);
     };
     Ok(Some(Transition {

@@ -3,7 +3,6 @@
 use crate::{SpecStop, read_spec};
 use hk_seq::Seq;
 use ir_thin::tree::{Function, Global as Scalar, Kernel};
-use spec_thin::tree::{Expr, Primary, Spec};
 use std::alloc::{AllocError, Global};
 use std::test::Fail;
 
@@ -69,5 +68,27 @@ fn texts_outside_the_form_are_refused(rt: HostRuntime) -> Result<(), Fail> {
         whole.push_str(text)?;
         assert!(rt; is_refused(alloc, whole.as_bytes())?, "{text}");
     }
+    Ok(())
+}
+
+fn first_global(alloc: Global, text: &[u8], kernel: &Kernel) -> Option<u32> {
+    if text.len() >= 1000 {
+        return None;
+    }
+    match read_spec(alloc, text, kernel) {
+        Ok(spec) => spec.fields.as_slice().first().map(|field| field.global),
+        Err(_) => None,
+    }
+}
+
+#[test]
+fn the_first_of_two_equal_names_counts(rt: HostRuntime) -> Result<(), Fail> {
+    let alloc = rt.alloc();
+    let mut kernel = kernel(alloc)?;
+    kernel.globals.push(Scalar {
+        name: name(alloc, b"ticks")?,
+        initial: 1,
+    })?;
+    assert_eq!(rt; first_global(alloc, HEAD.as_bytes(), &kernel), Some(0));
     Ok(())
 }

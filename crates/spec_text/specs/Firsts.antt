@@ -1,0 +1,22 @@
+-- Names with their first places in a list of names.
+use Rattle.std.specs.Prelude.{◌≡◌, ℕ, List, [], ◌∷◌, ◌++◌, Option, map, is_some, bytes_eq, if◌then◌else◌}
+use Rattle.std.specs.Map.{lookup}
+use Rattle.spec_text.specs.Lexing.{Word}
+use Rattle.spec_text.specs.Spelling.{place_of}
+use denote.Ref.{Bor}
+
+-- the words behind references, each with its place
+abbrev pub placed : List (Bor (List ℕ) × ℕ) → List (Word × ℕ)
+placed entries = map (λ e. (e.0.now, e.1)) entries
+
+-- the place that stands with the name
+abbrev pub place_at : Word → List (Word × ℕ) → Option ℕ
+place_at n firsts = lookup (bytes_eq n) firsts
+
+-- with a name and its place behind the others, unless the name is there
+abbrev pub with_place : List (Word × ℕ) → Word → ℕ → List (Word × ℕ)
+with_place firsts n place = if is_some (place_at n firsts) then firsts else firsts ++ (n, place) ∷ []
+
+-- each name stands with its first place among the names, and no other name stands there
+abbrev pub AreFirsts : List (Word × ℕ) → List Word → Type 0
+AreFirsts firsts names = (n : Word) → place_at n firsts ≡ place_of n names
