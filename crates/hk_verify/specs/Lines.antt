@@ -4,7 +4,7 @@ use Rattle.std.specs.Prelude.{ℕ, List, [], ◌∷◌, codes, slice_index_or, i
 use Rattle.std.specs.List.{list_any}
 use Rattle.std.specs.Fmt.{decimal}
 use Rattle.ir_ast.specs.declared.fault.KernelReason.{KernelReason}
-use Rattle.ir_ast.specs.declared.fault.KernelReason.TheVariants.{K1, K2, K3, K4, K9}
+use Rattle.ir_ast.specs.declared.fault.KernelReason.TheVariants.{K1, K2, K3, K4, K5, K6, K7, K8, K9, K10, K11, K12, K13, K14, K15}
 use Rattle.spec_text.specs.declared.fault.SpecReason.{SpecReason}
 use Rattle.spec_text.specs.declared.fault.SpecReason.TheVariants.{S3}
 use Rattle.hk_cnf.specs.declared.dimacs_read.CnfReason.{CnfReason}
@@ -21,7 +21,17 @@ kernel_code K1 = codes "K1"
 kernel_code K2 = codes "K2"
 kernel_code K3 = codes "K3"
 kernel_code K4 = codes "K4"
+kernel_code K5 = codes "K5"
+kernel_code K6 = codes "K6"
+kernel_code K7 = codes "K7"
+kernel_code K8 = codes "K8"
 kernel_code K9 = codes "K9"
+kernel_code K10 = codes "K10"
+kernel_code K11 = codes "K11"
+kernel_code K12 = codes "K12"
+kernel_code K13 = codes "K13"
+kernel_code K14 = codes "K14"
+kernel_code K15 = codes "K15"
 
 abbrev pub spec_code : SpecReason → List ℕ
 spec_code S3 = codes "S3"

@@ -43,7 +43,17 @@ fn kernel_reason(reason: KernelReason) -> &'static [u8]
         KernelReason::K2 => b"K2",
         KernelReason::K3 => b"K3",
         KernelReason::K4 => b"K4",
+        KernelReason::K5 => b"K5",
+        KernelReason::K6 => b"K6",
+        KernelReason::K7 => b"K7",
+        KernelReason::K8 => b"K8",
         KernelReason::K9 => b"K9",
+        KernelReason::K10 => b"K10",
+        KernelReason::K11 => b"K11",
+        KernelReason::K12 => b"K12",
+        KernelReason::K13 => b"K13",
+        KernelReason::K14 => b"K14",
+        KernelReason::K15 => b"K15",
     }
 }
 

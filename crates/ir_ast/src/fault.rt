@@ -18,10 +18,41 @@ pub enum KernelReason {
     /// A name that is defined a second time in its scope.
     #[error("K4")]
     K4,
+    /// A named type that is unknown or opaque, a type that contains itself, or a global of an integer without a size.
+    #[error("K5")]
+    K5,
+    /// The globals so far, or a type that the item uses, take more bytes than the limit.
+    #[error("K6")]
+    K6,
+    /// A data layout text with big endian numbers, 32-bit pointers or another alignment of `i64`.
+    #[error("K7")]
+    K7,
+    /// A name of a register, block, function, global or range that nothing defines, or a call of a declared function
+    /// that is neither void nor a listed intrinsic.
+    #[error("K8")]
+    K8,
     /// A type or an operand that its instruction does not take, and, until kernels of every kind have their meaning,
     /// whatever is no part of a thin kernel.
     #[error("K9")]
     K9,
+    /// The blocks have a cycle, or an edge goes to the first block.
+    #[error("K10")]
+    K10,
+    /// The function lies on a cycle of calls.
+    #[error("K11")]
+    K11,
+    /// Some path from the entry reaches the use without the definition.
+    #[error("K12")]
+    K12,
+    /// A global with a pointer in its type, or a load or store of a pointer outside a slot.
+    #[error("K13")]
+    K13,
+    /// The function, with its calls expanded, has more instructions than the limit.
+    #[error("K14")]
+    K14,
+    /// A phi whose arms are not the edges to its block, or that gives one predecessor two operands.
+    #[error("K15")]
+    K15,
 }
 
 /// A refusal: the line of the text, counted from 1, and the reason.

@@ -11,7 +11,17 @@ fn codes_and_lines_are_printed(rt: HostRuntime) -> Result<(), AllocError> {
         (KernelReason::K2, "K2"),
         (KernelReason::K3, "K3"),
         (KernelReason::K4, "K4"),
+        (KernelReason::K5, "K5"),
+        (KernelReason::K6, "K6"),
+        (KernelReason::K7, "K7"),
+        (KernelReason::K8, "K8"),
         (KernelReason::K9, "K9"),
+        (KernelReason::K10, "K10"),
+        (KernelReason::K11, "K11"),
+        (KernelReason::K12, "K12"),
+        (KernelReason::K13, "K13"),
+        (KernelReason::K14, "K14"),
+        (KernelReason::K15, "K15"),
     ];
     for (reason, code) in table {
         assert_eq!(rt; format!(in alloc; "{reason}")?.as_str(), code);

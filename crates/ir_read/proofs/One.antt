@@ -2,7 +2,7 @@
 use Rattle.std.proofs.Common.{◌≡◌, ℕ, Bool, true, false, ◌⊎◌, inl, inr, Result, Ok, Err, List, [], ◌∷◌, refl, sym, ◌∙◌, ap, subst}
 use Rattle.ir_ast.specs.Program.{ModuleView}
 use Rattle.ir_ast.specs.declared.fault.KernelReason.{KernelReason}
-use Rattle.ir_ast.specs.declared.fault.KernelReason.TheVariants.{K1, K2, K3, K4, K9}
+use Rattle.ir_ast.specs.declared.fault.KernelReason.TheVariants.{K1, K2, K3, K4, K5, K6, K7, K8, K9, K10, K11, K12, K13, K14, K15}
 use Rattle.ir_lex.specs.Lexeme.{Lexeme}
 use Rattle.ir_lex.specs.Cut.{Cut, cut}
 use Rattle.ir_lex.specs.Drop.{is_dropped_item, remaining}
@@ -26,38 +26,53 @@ use Rattle.std.specs.Prelude.{IfOk, IfErr}
 never_both : {A : Type 0} → (b : Bool) → b ≡ true → b ≡ false → A
 never_both b e f = absurd cc
 
+-- no reason but these two comes of reading an item
+two_reasons : (inside : Bool) (ts : List Lexeme) (reason : KernelReason) → Refuses inside ts reason → (reason ≡ K2) ⊎ (reason ≡ K3)
+two_reasons inside ts K1 h = absurd h
+two_reasons inside ts K2 h = inl refl
+two_reasons inside ts K3 h = inr refl
+two_reasons inside ts K4 h = absurd h
+two_reasons inside ts K5 h = absurd h
+two_reasons inside ts K6 h = absurd h
+two_reasons inside ts K7 h = absurd h
+two_reasons inside ts K8 h = absurd h
+two_reasons inside ts K9 h = absurd h
+two_reasons inside ts K10 h = absurd h
+two_reasons inside ts K11 h = absurd h
+two_reasons inside ts K12 h = absurd h
+two_reasons inside ts K13 h = absurd h
+two_reasons inside ts K14 h = absurd h
+two_reasons inside ts K15 h = absurd h
+
 refuses_kept : (inside : Bool) (ts : List Lexeme) (reason : KernelReason) → Refuses inside ts reason → is_dropped_item ts ≡ false
-refuses_kept inside ts K1 h = absurd h
-refuses_kept inside ts K2 h = h.0
-refuses_kept inside ts K3 h = h.0
-refuses_kept inside ts K4 h = absurd h
-refuses_kept inside ts K9 h = absurd h
+refuses_kept inside ts reason h = kept (two_reasons inside ts reason h)
+  where
+    kept : (reason ≡ K2) ⊎ (reason ≡ K3) → is_dropped_item ts ≡ false
+    kept (inl e) = (subst (Refuses inside ts) e h).0
+    kept (inr e) = (subst (Refuses inside ts) e h).0
 
 refuses_place : (inside : Bool) (ts : List Lexeme) (reason : KernelReason) → Refuses inside ts reason → IsInPlace inside ts → ⊥
-refuses_place inside ts K1 h = absurd h
-refuses_place inside ts K2 h = h.1
-refuses_place inside ts K3 h = h.1
-refuses_place inside ts K4 h = absurd h
-refuses_place inside ts K9 h = absurd h
+refuses_place inside ts reason h = placed (two_reasons inside ts reason h)
+  where
+    placed : (reason ≡ K2) ⊎ (reason ≡ K3) → IsInPlace inside ts → ⊥
+    placed (inl e) = (subst (Refuses inside ts) e h).1
+    placed (inr e) = (subst (Refuses inside ts) e h).1
 
 never_two : (inside : Bool) (ts : List Lexeme) → IsOutOfPlace inside ts ⊎ (holds_left_out (remaining ts) ≡ false) → (IsOutOfPlace inside ts → ⊥) → holds_left_out (remaining ts) ≡ true → ⊥
 never_two inside ts (inl is) other holds = other is
 never_two inside ts (inr none) other holds = never_both (holds_left_out (remaining ts)) holds none
 
+never_mixed : (inside : Bool) (ts : List Lexeme) → Refuses inside ts K2 → Refuses inside ts K3 → ⊥
+never_mixed inside ts h i = never_two inside ts h.2 i.2 i.3
+
 one_reason : (inside : Bool) (ts : List Lexeme) (a b : KernelReason) → Refuses inside ts a → Refuses inside ts b → a ≡ b
-one_reason inside ts K1 b h i = absurd h
-one_reason inside ts K4 b h i = absurd h
-one_reason inside ts K9 b h i = absurd h
-one_reason inside ts K2 K1 h i = absurd i
-one_reason inside ts K2 K2 h i = refl
-one_reason inside ts K2 K3 h i = absurd (never_two inside ts h.2 i.2 i.3)
-one_reason inside ts K2 K4 h i = absurd i
-one_reason inside ts K2 K9 h i = absurd i
-one_reason inside ts K3 K1 h i = absurd i
-one_reason inside ts K3 K2 h i = absurd (never_two inside ts i.2 h.2 h.3)
-one_reason inside ts K3 K3 h i = refl
-one_reason inside ts K3 K4 h i = absurd i
-one_reason inside ts K3 K9 h i = absurd i
+one_reason inside ts a b h i = same (two_reasons inside ts a h) (two_reasons inside ts b i)
+  where
+    same : (a ≡ K2) ⊎ (a ≡ K3) → (b ≡ K2) ⊎ (b ≡ K3) → a ≡ b
+    same (inl e) (inl f) = e ∙ sym f
+    same (inr e) (inr f) = e ∙ sym f
+    same (inl e) (inr f) = absurd (never_mixed inside ts (subst (Refuses inside ts) e h) (subst (Refuses inside ts) f i))
+    same (inr e) (inl f) = absurd (never_mixed inside ts (subst (Refuses inside ts) f i) (subst (Refuses inside ts) e h))
 
 -- an item that is read as one kind of thing is read as no other
 clash : {A : Type 0} → (inside : Bool) (ts : List Lexeme) → is_dropped_item ts ≡ true → is_dropped_item ts ≡ false → A

@@ -2,7 +2,7 @@
 use Rattle.std.specs.Prelude.{◌≡◌, ℕ, ℤ, Bool, true, false, ◌⊎◌, List}
 use Rattle.ir_ast.specs.Plain.{Ty}
 use Rattle.ir_ast.specs.declared.fault.KernelReason.{KernelReason}
-use Rattle.ir_ast.specs.declared.fault.KernelReason.TheVariants.{K1, K2, K3, K4, K9}
+use Rattle.ir_ast.specs.declared.fault.KernelReason.TheVariants.{K2, K3}
 use Rattle.ir_lex.specs.Lexeme.{Lexeme}
 use Rattle.ir_lex.specs.Drop.{is_dropped_item, remaining}
 use Rattle.ir_lex.specs.Tok.{toks}
@@ -34,11 +34,9 @@ IsOutOfPlace true ts = IsTop ts
 -- why an item that is not dropped is refused at its place: it is out of place or of no production; of no production, with a token of
 -- what is left out
 abbrev pub Refuses : Bool → List Lexeme → KernelReason → Type 0
-Refuses inside ts K1 = ⊥
 Refuses inside ts K2 = (is_dropped_item ts ≡ false) × (IsInPlace inside ts → ⊥) × (IsOutOfPlace inside ts ⊎ (holds_left_out (remaining ts) ≡ false))
 Refuses inside ts K3 = (is_dropped_item ts ≡ false) × (IsInPlace inside ts → ⊥) × (IsOutOfPlace inside ts → ⊥) × (holds_left_out (remaining ts) ≡ true)
-Refuses inside ts K4 = ⊥
-Refuses inside ts K9 = ⊥
+Refuses inside ts _ = ⊥
 
 abbrev pub Reads : Bool → Reading → List Lexeme → Type 0
 Reads inside passed ts = (is_dropped_item ts ≡ true) × ((name : List ℕ) → (numbers : List (Ty × ℤ)) → SpellsRangeItem name numbers (toks ts) → ⊥)

@@ -7,14 +7,14 @@ use super::*;
 use ir_ast::{Block, KernelFault, KernelReason, KernelStop, Module};
 use std::alloc::{AllocError, Global};
 
-/// The number of a reason.
+/// The number of a reason that this reader gives.
 fn number(reason: KernelReason) -> u32 {
     match reason {
         KernelReason::K1 => 1,
         KernelReason::K2 => 2,
         KernelReason::K3 => 3,
         KernelReason::K4 => 4,
-        KernelReason::K9 => 9,
+        _ => 5,
     }
 }
 
