@@ -1,6 +1,6 @@
 //! Files of the system: the trusted edge.
 ghost use Rattle.std.specs.Prelude.{◌≡◌, ◌+◌, ◌<◌, ◌≤◌, ◌^◌, length, None, IfOk, IsErrOf, vec_len};
-ghost use Rattle.hk_io.specs.Faults.{Rose};
+ghost use Rattle.hk_io.specs.Faults.{Rose, CountsLoad};
 
 use crate::fault::{LoadFault, SaveFault};
 use crate::shelf::Shelf;

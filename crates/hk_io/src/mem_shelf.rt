@@ -1,6 +1,6 @@
 //! A shelf in memory, which fails where it is told to.
 ghost use Rattle.std.specs.Prelude.{◌≡◌, ◌≢◌, ◌<◌, ◌≤◌, ◌^◌, ℕ, List, length, true, false, Some, not, ◌||◌, is_none, is_ok, is_some, if◌then◌else◌, IsSome, IsSomeAnd, IsErrOf, IsTrue, ◌↔◌, IfOk, OnOk};
-ghost use Rattle.hk_io.specs.Faults.{Rose};
+ghost use Rattle.hk_io.specs.Faults.{Rose, CountsLoad};
 ghost use Rattle.hk_io.specs.Held.{held_under, with_file};
 ghost use Rattle.hk_io.specs.Memory.{Answers, within_limit, loaded, is_failed, is_listed, counted, with_saved};
 
@@ -79,7 +79,7 @@ impl Shelf for MemShelf {
     fn load(&mut self, alloc: Global, name: &str, limit: u32) -> Result<Vec<u8>, LoadFault>
         ensures found { IfOk result (λ bytes. held_under (Some (shelf_state self.old).files) name.now ≡ Some bytes.items) }
         ensures within { IfOk result (λ bytes. length bytes.items ≤ limit) }
-        ensures failed { IsErrOf result LoadFault.Failed → Rose (shelf_state self.old).faults (shelf_state self.new).faults }
+        ensures counts { CountsLoad result (shelf_state self.old).faults (shelf_state self.new).faults }
         ensures too_long { IsErrOf result LoadFault.TooLong →
             IsSomeAnd (held_under (Some (shelf_state self.old).files) name.now) (λ bytes. limit < length bytes) }
         ensures unchanged { (shelf_state self.new).files ≡ (shelf_state self.old).files }
@@ -101,6 +101,7 @@ impl Shelf for MemShelf {
         ensures others { (other : List ℕ) → other ≢ name.now →
             held_under (Some (shelf_state self.new).files) other ≡ held_under (Some (shelf_state self.old).files) other }
         ensures failed { IsErrOf result SaveFault.Failed → Rose (shelf_state self.old).faults (shelf_state self.new).faults }
+        ensures still { OnOk result ((shelf_state self.new).faults ≡ (shelf_state self.old).faults) }
         ensures memory { IsErrOf result SaveFault.Memory →
             ((shelf_state self.new).files ≡ (shelf_state self.old).files) × ((shelf_state self.new).faults ≡ (shelf_state self.old).faults) }
         ensures later { (shelf_state self.old).faults ≤ (shelf_state self.new).faults }

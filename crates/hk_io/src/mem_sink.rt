@@ -70,6 +70,7 @@ impl Sink for MemSink {
             (sink_state self.new).text ≡ (sink_state self.old).text ++ take (sent_of fault) bytes.now) }
         ensures within { IfErr result (λ fault. sent_of fault ≤ length bytes.now) }
         ensures failed { OnErr result (Rose (sink_state self.old).faults (sink_state self.new).faults) }
+        ensures still { OnOk result ((sink_state self.new).faults ≡ (sink_state self.old).faults) }
         ensures later { (sink_state self.old).faults ≤ (sink_state self.new).faults }
         ensures fits { (sink_state self.new).faults < 2 ^ 64 }
         ensures answer { result ≡ put_answer (sink_state self.old) bytes.now }

@@ -1,6 +1,6 @@
 //! Files by name.
 ghost use Rattle.std.specs.Prelude.{◌≡◌, ◌≢◌, ◌<◌, ◌≤◌, ◌^◌, ℕ, List, Option, length, is_some, IsSome, IsSomeAnd, IsErrOf, IfOk, OnOk};
-ghost use Rattle.hk_io.specs.Faults.{Rose};
+ghost use Rattle.hk_io.specs.Faults.{Rose, CountsLoad};
 ghost use Rattle.hk_io.specs.Held.{Files, held_under};
 
 use crate::fault::{LoadFault, SaveFault};
@@ -14,19 +14,20 @@ pub trait Shelf {
     /// How often the outside has failed.
     ghost faults: { Self → ℕ };
 
-    /// The bytes of a file, of which there may be at most `limit`.
+    /// The bytes of a file, of which there may be at most `limit`. The count rises where the outside fails, and nowhere else.
     fn load(&mut self, alloc: Global, name: &str, limit: u32) -> Result<Vec<u8>, LoadFault>
         ensures found { IfOk result (λ bytes. IsSome (held self.old) →
             held_under (held self.old) name.now ≡ Some bytes.items) }
         ensures within { IfOk result (λ bytes. length bytes.items ≤ limit) }
-        ensures failed { IsErrOf result LoadFault.Failed → Rose (faults self.old) (faults self.new) }
+        ensures counts { CountsLoad result (faults self.old) (faults self.new) }
         ensures too_long { IsErrOf result LoadFault.TooLong → IsSome (held self.old) →
             IsSomeAnd (held_under (held self.old) name.now) (λ bytes. limit < length bytes) }
         ensures unchanged { held self.new ≡ held self.old }
         ensures later { faults self.old ≤ faults self.new }
         ensures fits { faults self.new < 2 ^ 64 };
 
-    /// Makes these the bytes of a file, in place of those that it had.
+    /// Makes these the bytes of a file, in place of those that it had. The count rises where the outside fails, and nowhere
+    /// else.
     fn save(&mut self, alloc: Global, name: &str, bytes: &[u8]) -> Result<(), SaveFault>
         ensures saved { OnOk result (IsSome (held self.old) →
             held_under (held self.new) name.now ≡ Some bytes.now) }
@@ -34,6 +35,7 @@ pub trait Shelf {
             held_under (held self.new) other ≡ held_under (held self.old) other }
         ensures told { is_some (held self.new) ≡ is_some (held self.old) }
         ensures failed { IsErrOf result SaveFault.Failed → Rose (faults self.old) (faults self.new) }
+        ensures still { OnOk result (faults self.new ≡ faults self.old) }
         ensures memory { IsErrOf result SaveFault.Memory →
             (held self.new ≡ held self.old) × (faults self.new ≡ faults self.old) }
         ensures later { faults self.old ≤ faults self.new }

@@ -13,13 +13,14 @@ pub trait Sink {
     /// How often the outside has failed.
     ghost faults: { Self → ℕ };
 
-    /// Puts a piece behind what is shown. It takes no memory.
+    /// Puts a piece behind what is shown. The count rises where the outside fails, and nowhere else. It takes no memory.
     fn put(&mut self, bytes: &[u8]) -> Result<(), SinkFault>
         ensures whole { OnOk result (shown self.new ≡ shown_with (shown self.old) bytes.now) }
         ensures sent { IfErr result (λ fault.
             shown self.new ≡ shown_with (shown self.old) (take (sent_of fault) bytes.now)) }
         ensures within { IfErr result (λ fault. sent_of fault ≤ length bytes.now) }
         ensures failed { OnErr result (Rose (faults self.old) (faults self.new)) }
+        ensures still { OnOk result (faults self.new ≡ faults self.old) }
         ensures later { faults self.old ≤ faults self.new }
         ensures fits { faults self.new < 2 ^ 64 };
 }

@@ -15,18 +15,13 @@ pub shown_with-nil : (s : Option (List ℕ)) → shown_with s [] ≡ s
 shown_with-nil None = refl
 shown_with-nil (Some text) = ap Some (append-nil text)
 
--- A count that rose after some time rose in all of it.
-pub rose_later : (a b c : ℕ) → a ≤ b → b ≤ c → Rose b c → Rose a c
-rose_later a b c before after rose = grind (arith, before, after, rose)
-
 -- Nothing is added.
 pub adds_nothing : (s : Option (List ℕ)) (f : ℕ) (held : List ℕ) → Adds s s f f held held []
 adds_nothing s f held = record {
   put = [];
   is_shown = sym (shown_with-nil s);
   parts = append-nil held;
-  later = omega arith;
-  fits = λ h. h;
+  still = refl;
 }
 
 -- One text is added behind another.
@@ -36,8 +31,7 @@ adds_then a b c fa fb fc p q r t u first second = record {
   is_shown = second.is_shown ∙ ap (λ s. shown_with s second.put) first.is_shown ∙ shown_with-append a first.put second.put;
   parts = sym (append_assoc p t u) ∙ ap (λ l. l ++ u) first.parts ∙ append_assoc first.put q u
       ∙ ap (λ l. first.put ++ l) second.parts ∙ sym (append_assoc first.put second.put r);
-  later = omega (arith, first.later, second.later);
-  fits = λ h. second.fits (first.fits h);
+  still = second.still ∙ first.still;
 }
 
 -- The second text fails.
@@ -47,8 +41,8 @@ fails_then a b c fa fb fc p q t u first second = record {
       let parts = sym (append_assoc p t u) ∙ ap (λ l. l ++ u) first.parts ∙ append_assoc first.put q u in
       let P : List ℕ → Type 0 = λ l. ShowsPrefix a c l in
       subst P (sym parts) (prefix_behind a b c first.put (q ++ u) first.is_shown second.cut);
-  failed = rose_later fa fb fc first.later second.later second.failed;
-  later = omega (arith, first.later, second.later);
+  failed = subst (λ f. Rose f fc) first.still second.failed;
+  later = subst (λ f. f ≤ fc) first.still second.later;
   fits = second.fits;
 }
 
@@ -131,22 +125,21 @@ fails_behind_all f xs i a b c fa fb fc p q t past first second =
 
 -- Nothing is shown.
 pub shows_nothing : (s : Option (List ℕ)) (f : ℕ) → Shows s s f f []
-shows_nothing s f = record { whole = sym (shown_with-nil s); later = omega arith; fits = λ h. h }
+shows_nothing s f = record { whole = sym (shown_with-nil s); still = refl }
 
 -- One text is shown behind another.
 pub shows_then : (a b c : Option (List ℕ)) (fa fb fc : ℕ) (t u : List ℕ) → Shows a b fa fb t → Shows b c fb fc u → Shows a c fa fc (t ++ u)
 shows_then a b c fa fb fc t u first second = record {
   whole = second.whole ∙ ap (λ s. shown_with s u) first.whole ∙ shown_with-append a t u;
-  later = omega (arith, first.later, second.later);
-  fits = λ h. second.fits (first.fits h);
+  still = second.still ∙ first.still;
 }
 
 -- The second text fails.
 pub shows_cut : (a b c : Option (List ℕ)) (fa fb fc : ℕ) (t u : List ℕ) → Shows a b fa fb t → Cuts b c fb fc u → Cuts a c fa fc (t ++ u)
 shows_cut a b c fa fb fc t u first second = record {
   cut = prefix_behind a b c t u first.whole second.cut;
-  failed = rose_later fa fb fc first.later second.later second.failed;
-  later = omega (arith, first.later, second.later);
+  failed = subst (λ f. Rose f fc) first.still second.failed;
+  later = subst (λ f. f ≤ fc) first.still second.later;
 }
 
 -- The first text fails.

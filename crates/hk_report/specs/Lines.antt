@@ -9,8 +9,7 @@ pub record Adds (shown shown' : Option (List ℕ)) (faults faults' : ℕ) (held 
   pub put : List ℕ
   pub is_shown : shown' ≡ shown_with shown put
   pub parts : held ++ text ≡ put ++ held'
-  pub later : faults ≤ faults'
-  pub fits : faults < 2 ^ 64 → faults' < 2 ^ 64
+  pub still : faults' ≡ faults
 
 -- A put failed, with a prefix of this text shown.
 pub record Fails (shown shown' : Option (List ℕ)) (faults faults' : ℕ) (text : List ℕ) : Type 0 where
@@ -22,8 +21,7 @@ pub record Fails (shown shown' : Option (List ℕ)) (faults faults' : ℕ) (text
 -- A text was put whole.
 pub record Shows (shown shown' : Option (List ℕ)) (faults faults' : ℕ) (text : List ℕ) : Type 0 where
   pub whole : shown' ≡ shown_with shown text
-  pub later : faults ≤ faults'
-  pub fits : faults < 2 ^ 64 → faults' < 2 ^ 64
+  pub still : faults' ≡ faults
 
 -- A put of a text's lines failed, with a prefix of the text shown.
 pub record Cuts (shown shown' : Option (List ℕ)) (faults faults' : ℕ) (text : List ℕ) : Type 0 where

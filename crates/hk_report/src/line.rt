@@ -213,6 +213,7 @@ pub fn put_line<O: Sink>(out: &mut O, parts: &[Part]) -> Result<(), SinkFault>
     ensures whole { OnOk result (O.shown out.new ≡ shown_with (O.shown out.old) (line_text parts.now)) }
     ensures cut { OnErr result (ShowsPrefix (O.shown out.old) (O.shown out.new) (line_text parts.now)) }
     ensures failed { OnErr result (Rose (O.faults out.old) (O.faults out.new)) }
+    ensures still { OnOk result (O.faults out.new ≡ O.faults out.old) }
     ensures later { O.faults out.old ≤ O.faults out.new }
     ensures fits { O.faults out.new < 2 ^ 64 }
 {

@@ -17,6 +17,7 @@ pub fn put_init<O: Sink>(out: &mut O, init: InitVerdict) -> Result<(), SinkFault
     ensures whole { OnOk result (O.shown out.new ≡ shown_with (O.shown out.old) (init_text init)) }
     ensures cut { OnErr result (ShowsPrefix (O.shown out.old) (O.shown out.new) (init_text init)) }
     ensures failed { OnErr result (Rose (O.faults out.old) (O.faults out.new)) }
+    ensures still { OnOk result (O.faults out.new ≡ O.faults out.old) }
     ensures later { O.faults out.old ≤ O.faults out.new }
     ensures fits { O.faults out.old < 2 ^ 64 → O.faults out.new < 2 ^ 64 }
 {
@@ -31,6 +32,7 @@ fn put_arg<O: Sink>(out: &mut O, place: usize, arg: u8) -> Result<(), SinkFault>
     ensures whole { OnOk result (O.shown out.new ≡ shown_with (O.shown out.old) (arg_text (place, arg))) }
     ensures cut { OnErr result (ShowsPrefix (O.shown out.old) (O.shown out.new) (arg_text (place, arg))) }
     ensures failed { OnErr result (Rose (O.faults out.old) (O.faults out.new)) }
+    ensures still { OnOk result (O.faults out.new ≡ O.faults out.old) }
     ensures later { O.faults out.old ≤ O.faults out.new }
     ensures fits { O.faults out.new < 2 ^ 64 }
 {
@@ -48,6 +50,7 @@ pub fn put_args<O: Sink>(out: &mut O, args: &[u8]) -> Result<(), SinkFault>
     ensures whole { OnOk result (O.shown out.new ≡ shown_with (O.shown out.old) (args_text args.now)) }
     ensures cut { OnErr result (ShowsPrefix (O.shown out.old) (O.shown out.new) (args_text args.now)) }
     ensures failed { OnErr result (Rose (O.faults out.old) (O.faults out.new)) }
+    ensures still { OnOk result (O.faults out.new ≡ O.faults out.old) }
     ensures later { O.faults out.old ≤ O.faults out.new }
     ensures fits { O.faults out.old < 2 ^ 64 → O.faults out.new < 2 ^ 64 }
 {
@@ -67,6 +70,7 @@ fn put_row_line<'x, O: Sink>(
     ensures whole { OnOk result (O.shown out.new ≡ shown_with (O.shown out.old) (row_line name.now offset row.now)) }
     ensures cut { OnErr result (ShowsPrefix (O.shown out.old) (O.shown out.new) (row_line name.now offset row.now)) }
     ensures failed { OnErr result (Rose (O.faults out.old) (O.faults out.new)) }
+    ensures still { OnOk result (O.faults out.new ≡ O.faults out.old) }
     ensures later { O.faults out.old ≤ O.faults out.new }
     ensures fits { O.faults out.new < 2 ^ 64 }
 {
@@ -98,6 +102,7 @@ fn put_row<'x, O: Sink>(
     ensures whole { OnOk result (O.shown out.new ≡ shown_with (O.shown out.old) (row_text name.now offset row.now)) }
     ensures cut { OnErr result (ShowsPrefix (O.shown out.old) (O.shown out.new) (row_text name.now offset row.now)) }
     ensures failed { OnErr result (Rose (O.faults out.old) (O.faults out.new)) }
+    ensures still { OnOk result (O.faults out.new ≡ O.faults out.old) }
     ensures later { O.faults out.old ≤ O.faults out.new }
     ensures fits { O.faults out.old < 2 ^ 64 → O.faults out.new < 2 ^ 64 }
 {
@@ -121,6 +126,7 @@ fn put_global<O: Sink>(out: &mut O, name: &[u8], bytes: &[u8]) -> Result<(), Sin
     ensures whole { OnOk result (O.shown out.new ≡ shown_with (O.shown out.old) (global_text name.now bytes.now)) }
     ensures cut { OnErr result (ShowsPrefix (O.shown out.old) (O.shown out.new) (global_text name.now bytes.now)) }
     ensures failed { OnErr result (Rose (O.faults out.old) (O.faults out.new)) }
+    ensures still { OnOk result (O.faults out.new ≡ O.faults out.old) }
     ensures later { O.faults out.old ≤ O.faults out.new }
     ensures fits { O.faults out.old < 2 ^ 64 → O.faults out.new < 2 ^ 64 }
 {
@@ -135,6 +141,7 @@ pub fn put_memory<O: Sink>(out: &mut O, kernel: &Kernel, memory: &[u8]) -> Resul
     ensures whole { OnOk result (O.shown out.new ≡ shown_with (O.shown out.old) (memory_text kernel.now memory.now)) }
     ensures cut { OnErr result (ShowsPrefix (O.shown out.old) (O.shown out.new) (memory_text kernel.now memory.now)) }
     ensures failed { OnErr result (Rose (O.faults out.old) (O.faults out.new)) }
+    ensures still { OnOk result (O.faults out.new ≡ O.faults out.old) }
     ensures later { O.faults out.old ≤ O.faults out.new }
     ensures fits { O.faults out.old < 2 ^ 64 → O.faults out.new < 2 ^ 64 }
 {
@@ -166,6 +173,7 @@ fn put_rejection<'x, O: Sink>(
     ensures cut { OnErr result (
         ShowsPrefix (O.shown out.old) (O.shown out.new) (rejection_line spec.now transition.now obligation)) }
     ensures failed { OnErr result (Rose (O.faults out.old) (O.faults out.new)) }
+    ensures still { OnOk result (O.faults out.new ≡ O.faults out.old) }
     ensures later { O.faults out.old ≤ O.faults out.new }
     ensures fits { O.faults out.new < 2 ^ 64 }
 {
@@ -202,6 +210,7 @@ fn put_block<O: Sink>(
     ensures cut { OnErr result (
         ShowsPrefix (O.shown out.old) (O.shown out.new) (args_text args.now ++ memory_text kernel.now memory.now)) }
     ensures failed { OnErr result (Rose (O.faults out.old) (O.faults out.new)) }
+    ensures still { OnOk result (O.faults out.new ≡ O.faults out.old) }
     ensures later { O.faults out.old ≤ O.faults out.new }
     ensures fits { O.faults out.old < 2 ^ 64 → O.faults out.new < 2 ^ 64 }
 {
@@ -214,6 +223,7 @@ fn put_case<O: Sink>(out: &mut O, kernel: &Kernel, case: &Case) -> Result<(), Si
     ensures whole { OnOk result (O.shown out.new ≡ shown_with (O.shown out.old) (case_text kernel.now case.now)) }
     ensures cut { OnErr result (ShowsPrefix (O.shown out.old) (O.shown out.new) (case_text kernel.now case.now)) }
     ensures failed { OnErr result (Rose (O.faults out.old) (O.faults out.new)) }
+    ensures still { OnOk result (O.faults out.new ≡ O.faults out.old) }
     ensures later { O.faults out.old ≤ O.faults out.new }
     ensures fits { O.faults out.old < 2 ^ 64 → O.faults out.new < 2 ^ 64 }
 {
@@ -241,6 +251,7 @@ fn put_rejected<O: Sink>(
     ensures cut { OnErr result (
         ShowsPrefix (O.shown out.old) (O.shown out.new) (rejection_line spec.now transition.now obligation ++ case_text kernel.now case.now)) }
     ensures failed { OnErr result (Rose (O.faults out.old) (O.faults out.new)) }
+    ensures still { OnOk result (O.faults out.new ≡ O.faults out.old) }
     ensures later { O.faults out.old ≤ O.faults out.new }
     ensures fits { O.faults out.new < 2 ^ 64 }
 {
@@ -261,6 +272,7 @@ pub fn put_verdict<O: Sink>(
     ensures cut { OnErr result (
         ShowsPrefix (O.shown out.old) (O.shown out.new) (verdict_text kernel.now spec.now transition.now verdict.now)) }
     ensures failed { OnErr result (Rose (O.faults out.old) (O.faults out.new)) }
+    ensures still { OnOk result (O.faults out.new ≡ O.faults out.old) }
     ensures later { O.faults out.old ≤ O.faults out.new }
     ensures fits { O.faults out.new < 2 ^ 64 }
 {

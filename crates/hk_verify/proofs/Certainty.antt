@@ -19,7 +19,7 @@ use Rattle.hk_verify.specs.declared.answer.TopFault.{TopFault}
 use Rattle.hk_verify.specs.declared.answer.TopFault.TheVariants.{Usage, Read, Long, Kernel as OfKernel, Spec as OfSpec, Cnf as OfCnf, Wide, Memory, Write}
 use Rattle.hk_verify.specs.Kernels.{IsKernelText}
 use Rattle.hk_verify.specs.Words.{IsVerify, HasNoForm}
-use Rattle.hk_verify.specs.Inputs.{ShelfView, IsLoaded, AreRead, kernel_limit, spec_limit}
+use Rattle.hk_verify.specs.Inputs.{Asked, ShelfView, IsLoaded, AreRead, asked, kernel_limit, spec_limit}
 use Rattle.hk_verify.specs.Verdicts.{AreRight, AreCut}
 use Rattle.hk_verify.specs.Answers.{SinkView, IsCut, IsInitCut, IsReported, IsEnded, IsUsage, IsWhole, Means, ReportsWith}
 use Rattle.hk_verify.specs.Headline.{IsHandler, AcceptsCorrect, RejectsRefuted, Refutes}
@@ -75,9 +75,9 @@ of_report sink kernel spec answer (Some (Wide w)) h t v reports there here = abs
 of_report sink kernel spec answer (Some Memory) h t v reports there here = absurd reports
 
 -- The text that was loaded is the one that is held.
-pub same_text : (held : Option Files) (name : List ℕ) (limit : ℕ) (text loaded : List ℕ) → IsLoaded held name limit loaded → held_under held name ≡ Some text → loaded ≡ text
-same_text None name limit text loaded load there = cc
-same_text (Some files) name limit text loaded load there = some_is (sym (load.told refl) ∙ there)
+pub same_text : (held : Option Files) (file : Asked) (text loaded : List ℕ) → IsLoaded held file loaded → held_under held file.name ≡ Some text → loaded ≡ text
+same_text None file text loaded load there = cc
+same_text (Some files) file text loaded load there = some_is (sym (load.told refl) ∙ there)
 
 -- Three words name two files.
 second : List (List ℕ) → List ℕ
@@ -106,9 +106,9 @@ of_read : (held : Option Files) (words : List (List ℕ)) (kernel_name spec_name
 of_read held words kernel_name spec_name kernel other spec other_spec h t v form read handler right =
     let same_k : handler.kernel_name ≡ kernel_name = same_second words _ _ _ _ _ _ handler.form form in
     let same_s : handler.spec_name ≡ spec_name = same_third words _ _ _ _ _ _ handler.form form in
-    let kernel_text : read.kernel_text ≡ handler.kernel_text = same_text held kernel_name kernel_limit handler.kernel_text read.kernel_text read.loaded.first_loaded
+    let kernel_text : read.kernel_text ≡ handler.kernel_text = same_text held (asked 1 kernel_name kernel_limit) handler.kernel_text read.kernel_text read.loaded.0
     (subst (λ n. held_under held n ≡ Some handler.kernel_text) same_k handler.kernel_held) in
-    let spec_text : read.spec_text ≡ handler.spec_text = same_text held spec_name spec_limit handler.spec_text read.spec_text read.loaded.second_loaded
+    let spec_text : read.spec_text ≡ handler.spec_text = same_text held (asked 2 spec_name spec_limit) handler.spec_text read.spec_text read.loaded.1.0
     (subst (λ n. held_under held n ≡ Some handler.spec_text) same_s handler.spec_held) in
     let is_kernel : kernel ≡ other = read.the_kernel.only kernel (subst (λ text. IsKernelText text kernel) (sym kernel_text) handler.kernel_spelled) in
     let is_spec : spec ≡ other_spec = read.the_spec.only spec (subst (λ k. IsSpecText k read.spec_text spec) is_kernel
@@ -135,7 +135,7 @@ pub rejects : (shelf : ShelfView) (sink : SinkView) (words : List (List ℕ)) (k
     → IsVerify words kernel_name spec_name → Means shelf sink words kernel_name spec_name answer → RejectsRefuted shelf.held words answer
 rejects shelf sink words kernel_name spec_name answer form means kernel spec h t o c handler here =
     let refuted = right_at shelf sink words kernel_name spec_name answer kernel spec h t (Rejected o c) form means handler here in
-    record { owed = refuted.owed; case_of = refuted.case_of; violates = refuted.violates }
+    record { owed = (refuted.place, refuted.owed); case_of = refuted.case_of; violates = refuted.violates }
 
 -- Words without a form have no handler.
 pub accepts_none : (held : Option Files) (words : List (List ℕ)) (answer : Answer) → HasNoForm words → AcceptsCorrect held words answer

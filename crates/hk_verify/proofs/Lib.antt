@@ -1,5 +1,6 @@
 mod Certainty
 mod Forms
 mod KernelReading
+mod Loading
 mod Pushes
 mod Whole

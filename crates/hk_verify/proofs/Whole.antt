@@ -21,12 +21,13 @@ where_ok (Err e) P fine p = cc
 
 pub whole_report : (sink : SinkView) (kernel : Kernel) (spec : Spec) (opened : Option (List ℕ)) (verdicts : List Verdict) (answer : Answer)
     → opened ≡ shown_with sink.shown (init_text Holds) → AreShown kernel spec verdicts opened sink.shown'
-    → answer.init ≡ Holds → answer.verdicts ≡ verdicts → answer.status ≡ verdict_status verdicts → IsWhole sink kernel spec answer
-whole_report sink kernel spec opened verdicts answer opening shown init same status = record {
+    → sink.faults' ≡ sink.faults → answer.init ≡ Holds → answer.verdicts ≡ verdicts → answer.status ≡ verdict_status verdicts → IsWhole sink kernel spec answer
+whole_report sink kernel spec opened verdicts answer opening shown still init same status = record {
   init = init;
   right = subst (AreRight kernel spec spec.transitions) (sym same) shown.right;
   says = shown.says ∙ ap (λ s. shown_with s (verdicts_text kernel spec verdicts)) opening
       ∙ shown_with-append sink.shown (init_text Holds) (verdicts_text kernel spec verdicts)
       ∙ ap (λ vs. shown_with sink.shown (report_text kernel spec Holds vs)) (sym same);
+  still = still;
   status = status ∙ ap verdict_status (sym same);
 }

@@ -12,7 +12,7 @@ use Rattle.hk_verify.specs.Verdicts.{AreRight, AreCut}
 use Rattle.hk_verify.specs.declared.answer.Answer.{Answer}
 use Rattle.hk_verify.specs.declared.answer.TopFault.{TopFault}
 use Rattle.hk_verify.specs.declared.answer.TopFault.TheVariants.{Usage, Read, Long, Kernel as OfKernel, Spec as OfSpec, Cnf as OfCnf, Wide, Memory, Write}
-use Rattle.hk_verify.specs.Inputs.{ShelfView, AreRead, AreNarrow, HasCause}
+use Rattle.hk_verify.specs.Inputs.{ShelfView, AreRead, AreNarrow, CountsLoads, HasCause}
 use Rattle.hk_verify.specs.Lines.{fault_text, fault_status, verdict_status}
 
 -- What a call sees of the sink: what is shown, where it tells of it, and its count of faults, before and after.
@@ -22,9 +22,10 @@ pub record SinkView : Type 0 where
   pub faults : ℕ
   pub faults' : ℕ
 
--- The sink shows this text since; where its count rose, a prefix of it.
+-- The sink shows this text since, and its count stands as it was; or the count rose, and a prefix of the text is shown.
 abbrev pub Says : SinkView → List ℕ → Type 0
-Says sink text = (sink.shown' ≡ shown_with sink.shown text) ⊎ (Rose sink.faults sink.faults' × ShowsPrefix sink.shown sink.shown' text)
+Says sink text =
+    ((sink.shown' ≡ shown_with sink.shown text) × (sink.faults' ≡ sink.faults)) ⊎ (Rose sink.faults sink.faults' × ShowsPrefix sink.shown sink.shown' text)
 
 -- The call ended with this fault before the line of the opening.
 pub record IsRefused (sink : SinkView) (words : List (List ℕ)) (name : List ℕ) (fault : TopFault) (answer : Answer) : Type 0 where
@@ -38,6 +39,7 @@ pub record IsWhole (sink : SinkView) (kernel : Kernel) (spec : Spec) (answer : A
   pub init : answer.init ≡ Holds
   pub right : AreRight kernel spec spec.transitions answer.verdicts
   pub says : sink.shown' ≡ shown_with sink.shown (report_text kernel spec Holds answer.verdicts)
+  pub still : sink.faults' ≡ sink.faults
   pub status : answer.status ≡ verdict_status answer.verdicts
 
 -- The put of the opening failed.
@@ -88,6 +90,12 @@ pub record IsEnded (shelf : ShelfView) (sink : SinkView) (words : List (List ℕ
 abbrev pub Means : ShelfView → SinkView → List (List ℕ) → List ℕ → List ℕ → Answer → Type 0
 Means shelf sink words kernel_name spec_name answer =
     IsReported shelf sink kernel_name spec_name answer ⊎ IsEnded shelf sink words kernel_name spec_name answer
+
+-- No fault of the outside is hidden: the shelf's count rose just where the answer names a failed load, and where it names
+-- no fault at all the sink's count stands as it was.
+pub record HidesNone (shelf : ShelfView) (sink : SinkView) (answer : Answer) : Type 0 where
+  pub loads : CountsLoads answer.fault shelf.before shelf.after
+  pub puts : answer.fault ≡ None → sink.faults' ≡ sink.faults
 
 -- What the answer to words without a form means: the line of usage, and nothing was loaded.
 pub record IsUsage (sink : SinkView) (words : List (List ℕ)) (answer : Answer) : Type 0 where

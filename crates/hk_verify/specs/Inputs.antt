@@ -1,6 +1,7 @@
 -- What was read: the texts that were loaded, the kernel and the specification that they spell, and why there is none.
 
-use Rattle.std.specs.Prelude.{ℕ, ◌+◌, ◌<◌, ◌≤◌, ◌≡◌, ◌⊎◌, List, Option, Some, None, IsSome, IsSomeAnd, All, ⊤, length, slice_get, take, Result, Ok, Err, ◌^◌}
+use Rattle.std.specs.Prelude.{ℕ, ◌<◌, ◌≤◌, ◌≡◌, List, [], ◌∷◌, ◌++◌, Option, Some, IsSome, IsSomeAnd, All, ⊤, length, slice_get, take, Result, Ok, Err, ◌^◌}
+use Rattle.std.specs.List.{AllZip}
 use Rattle.hk_io.specs.Faults.{Rose}
 use Rattle.hk_io.specs.Held.{Files, held_under}
 use Rattle.ir_ast.specs.declared.fault.KernelFault.{KernelFault}
@@ -34,39 +35,62 @@ pub record ShelfView : Type 0 where
   pub before : ℕ
   pub after : ℕ
 
--- This text was loaded under the name.
-pub record IsLoaded (held : Option Files) (name : List ℕ) (limit : ℕ) (text : List ℕ) : Type 0 where
-  pub told : IsSome held → held_under held name ≡ Some text
-  pub within : length text ≤ limit
+abbrev pub seen : Option Files → ℕ → ℕ → ShelfView
+seen held before after = record { held = held; before = before; after = after }
 
--- Why the load of a word has no answer: the shelf failed in it, the file is too long, or memory was refused.
-abbrev pub IsLoadFault : Option Files → ℕ → ℕ → ℕ → List ℕ → ℕ → TopFault → Type 0
-IsLoadFault held before after word name limit (Read w) = (w ≡ word) × Rose before after
-IsLoadFault held before after word name limit (Long w) = (w ≡ word) × (IsSome held → IsSomeAnd (held_under held name) (λ text. limit < length text))
-IsLoadFault held before after word name limit Memory = ⊤
-IsLoadFault held before after word name limit Usage = ⊥
-IsLoadFault held before after word name limit (OfKernel f) = ⊥
-IsLoadFault held before after word name limit (OfSpec f) = ⊥
-IsLoadFault held before after word name limit (OfCnf f) = ⊥
-IsLoadFault held before after word name limit (Wide h) = ⊥
-IsLoadFault held before after word name limit Write = ⊥
+-- A file that the words ask for: its word, counted from 0, its name, and the most bytes that it may have.
+pub record Asked : Type 0 where
+  pub word : ℕ
+  pub name : List ℕ
+  pub limit : ℕ
 
--- Both texts were loaded, under the words 1 and 2.
-pub record AreLoaded (held : Option Files) (first : List ℕ) (first_limit : ℕ) (second : List ℕ) (second_limit : ℕ) (first_text second_text : List ℕ) : Type 0 where
-  pub first_loaded : IsLoaded held first first_limit first_text
-  pub second_loaded : IsLoaded held second second_limit second_text
+abbrev pub asked : ℕ → List ℕ → ℕ → Asked
+asked word name limit = record { word = word; name = name; limit = limit }
 
--- Why one of two loads has no answer: the first one, or the second one behind it.
-pub record IsSecondLoadFault (shelf : ShelfView) (first : List ℕ) (first_limit : ℕ) (second : List ℕ) (second_limit : ℕ) (fault : TopFault) : Type 0 where
-  pub first_text : List ℕ
-  pub loaded : IsLoaded shelf.held first first_limit first_text
-  pub between : ℕ
-  pub later : shelf.before ≤ between
-  pub cause : IsLoadFault shelf.held between shelf.after 2 second second_limit fault
+-- The files of `verify KERNEL SPEC`, in the order in which they are loaded.
+abbrev pub verify_files : List ℕ → List ℕ → List Asked
+verify_files kernel spec = asked 1 kernel kernel_limit ∷ asked 2 spec spec_limit ∷ []
 
-abbrev pub IsLoadingFault : ShelfView → List ℕ → ℕ → List ℕ → ℕ → TopFault → Type 0
-IsLoadingFault shelf first first_limit second second_limit fault =
-    IsLoadFault shelf.held shelf.before shelf.after 1 first first_limit fault ⊎ IsSecondLoadFault shelf first first_limit second second_limit fault
+-- The files of `lrat CNF PROOF`.
+abbrev pub lrat_files : List ℕ → List ℕ → List Asked
+lrat_files cnf proof = asked 1 cnf proof_limit ∷ asked 2 proof proof_limit ∷ []
+
+-- This text was loaded for the file.
+pub record IsLoaded (held : Option Files) (file : Asked) (text : List ℕ) : Type 0 where
+  pub told : IsSome held → held_under held file.name ≡ Some text
+  pub within : length text ≤ file.limit
+
+-- These texts were loaded for the files, one for each in their order.
+abbrev pub AreLoaded : Option Files → List Asked → List (List ℕ) → Type 0
+AreLoaded held files texts = AllZip (IsLoaded held) files texts
+
+-- Why the load of a file has no answer: the shelf failed in it, the file is too long, or memory was refused.
+abbrev pub IsLoadFault : ShelfView → Asked → TopFault → Type 0
+IsLoadFault shelf file (Read w) = (w ≡ file.word) × Rose shelf.before shelf.after
+IsLoadFault shelf file (Long w) = (w ≡ file.word) × (IsSome shelf.held → IsSomeAnd (held_under shelf.held file.name) (λ text. file.limit < length text))
+IsLoadFault shelf file Memory = ⊤
+IsLoadFault shelf file Usage = ⊥
+IsLoadFault shelf file (OfKernel f) = ⊥
+IsLoadFault shelf file (OfSpec f) = ⊥
+IsLoadFault shelf file (OfCnf f) = ⊥
+IsLoadFault shelf file (Wide h) = ⊥
+IsLoadFault shelf file Write = ⊥
+
+-- Why loads, one after another, have no answer: the files before one were loaded, which leaves the count of faults as it
+-- was, and the load of that one has none.
+pub record IsLoadingFault (shelf : ShelfView) (files : List Asked) (fault : TopFault) : Type 0 where
+  pub before : List Asked
+  pub failed : Asked
+  pub behind : List Asked
+  pub in_order : files ≡ before ++ failed ∷ behind
+  pub texts : List (List ℕ)
+  pub loaded : AreLoaded shelf.held before texts
+  pub cause : IsLoadFault shelf failed fault
+
+-- What loads leave of the count of faults: it rose where a load failed, and stands as it was otherwise.
+abbrev pub CountsLoads : Option TopFault → ℕ → ℕ → Type 0
+CountsLoads (Some (Read w)) before after = Rose before after
+CountsLoads _ before after = after ≡ before
 
 -- The specification that a text spells for a kernel: this one, and no other.
 pub record IsTheSpec (kernel : Kernel) (text : List ℕ) (spec : Spec) : Type 0 where
@@ -77,7 +101,7 @@ pub record IsTheSpec (kernel : Kernel) (text : List ℕ) (spec : Spec) : Type 0 
 pub record AreRead (held : Option Files) (kernel_name spec_name : List ℕ) (kernel : Kernel) (spec : Spec) : Type 0 where
   pub kernel_text : List ℕ
   pub spec_text : List ℕ
-  pub loaded : AreLoaded held kernel_name kernel_limit spec_name spec_limit kernel_text spec_text
+  pub loaded : AreLoaded held (verify_files kernel_name spec_name) (kernel_text ∷ spec_text ∷ [])
   pub the_kernel : IsTheKernel kernel_text kernel
   pub the_spec : IsTheSpec kernel spec_text spec
 
@@ -95,7 +119,7 @@ AreNarrow kernel transitions = All (λ t. case_bits kernel t ≤ 16) transitions
 pub record RefusesKernel (held : Option Files) (kernel_name spec_name : List ℕ) (fault : KernelFault) : Type 0 where
   pub kernel_text : List ℕ
   pub spec_text : List ℕ
-  pub loaded : AreLoaded held kernel_name kernel_limit spec_name spec_limit kernel_text spec_text
+  pub loaded : AreLoaded held (verify_files kernel_name spec_name) (kernel_text ∷ spec_text ∷ [])
   pub refused : IsRefusedKernel kernel_text fault
 
 -- The specification text is no thin specification for the kernel.
@@ -103,7 +127,7 @@ pub record RefusesSpec (held : Option Files) (kernel_name spec_name : List ℕ) 
   pub kernel_text : List ℕ
   pub spec_text : List ℕ
   pub kernel : Kernel
-  pub loaded : AreLoaded held kernel_name kernel_limit spec_name spec_limit kernel_text spec_text
+  pub loaded : AreLoaded held (verify_files kernel_name spec_name) (kernel_text ∷ spec_text ∷ [])
   pub the_kernel : IsTheKernel kernel_text kernel
   pub refused : IsRefusedSpec kernel spec_text fault
 
@@ -120,8 +144,8 @@ pub record RefusesWidth (held : Option Files) (kernel_name spec_name : List ℕ)
 -- Want of memory is the one free answer.
 abbrev pub HasCause : ShelfView → List ℕ → List ℕ → List ℕ → TopFault → Type 0
 HasCause shelf kernel spec name Usage = ⊥
-HasCause shelf kernel spec name (Read w) = IsLoadingFault shelf kernel kernel_limit spec spec_limit (Read w)
-HasCause shelf kernel spec name (Long w) = IsLoadingFault shelf kernel kernel_limit spec spec_limit (Long w)
+HasCause shelf kernel spec name (Read w) = IsLoadingFault shelf (verify_files kernel spec) (Read w)
+HasCause shelf kernel spec name (Long w) = IsLoadingFault shelf (verify_files kernel spec) (Long w)
 HasCause shelf kernel spec name (OfKernel f) = RefusesKernel shelf.held kernel spec f
 HasCause shelf kernel spec name (OfSpec f) = RefusesSpec shelf.held kernel spec f
 HasCause shelf kernel spec name (OfCnf f) = ⊥

@@ -20,7 +20,7 @@ use Rattle.hk_verify.specs.declared.answer.Answer.{Answer}
 use Rattle.hk_verify.specs.declared.answer.TopFault.{TopFault}
 use Rattle.hk_verify.specs.declared.answer.TopFault.TheVariants.{Usage, Read, Long, Kernel as OfKernel, Spec as OfSpec, Cnf as OfCnf, Wide, Memory, Write}
 use Rattle.hk_verify.specs.Words.{IsLrat}
-use Rattle.hk_verify.specs.Inputs.{ShelfView, AreLoaded, IsLoadingFault, proof_limit}
+use Rattle.hk_verify.specs.Inputs.{ShelfView, AreLoaded, IsLoadingFault, lrat_files}
 use Rattle.hk_verify.specs.Answers.{SinkView, IsRefused}
 
 -- Where a proof first fails over a clause list: in its text, which is read as a whole first, or as a log. None where it
@@ -55,6 +55,7 @@ proof_status (Some fault) = 1
 -- The line is shown whole.
 pub record IsTold (sink : SinkView) (outcome : Option Fault) (answer : Answer) : Type 0 where
   pub says : sink.shown' ≡ shown_with sink.shown (proof_text outcome)
+  pub still : sink.faults' ≡ sink.faults
   pub status : answer.status ≡ proof_status outcome
 
 -- The put of the line failed.
@@ -87,7 +88,7 @@ pub record IsTried (held : Option Files) (cnf proof : List ℕ) (outcome : Optio
   pub cnf_text : List ℕ
   pub proof_text : List ℕ
   pub list : Clauses
-  pub loaded : AreLoaded held cnf proof_limit proof proof_limit cnf_text proof_text
+  pub loaded : AreLoaded held (lrat_files cnf proof) (cnf_text ∷ proof_text ∷ [])
   pub spelled : dimacs_of cnf_text ≡ Ok list
   pub outcome_is : outcome ≡ proof_fault list proof_text
   pub sound : outcome ≡ None → IsUnsatisfiable list
@@ -96,7 +97,7 @@ pub record IsTried (held : Option Files) (cnf proof : List ℕ) (outcome : Optio
 pub record RefusesCnf (held : Option Files) (cnf proof : List ℕ) (fault : CnfFault) : Type 0 where
   pub cnf_text : List ℕ
   pub proof_text : List ℕ
-  pub loaded : AreLoaded held cnf proof_limit proof proof_limit cnf_text proof_text
+  pub loaded : AreLoaded held (lrat_files cnf proof) (cnf_text ∷ proof_text ∷ [])
   pub refused : dimacs_of cnf_text ≡ Err (fault.line, fault.reason)
 
 -- What reading a clause file gives: the list that it spells, or its first fault.
@@ -114,8 +115,8 @@ ReadsCnf answer (Err Write) = ⊥
 
 -- Why the call ended before its line. Want of memory is the one free answer.
 abbrev pub HasLratCause : ShelfView → List ℕ → List ℕ → TopFault → Type 0
-HasLratCause shelf cnf proof (Read w) = IsLoadingFault shelf cnf proof_limit proof proof_limit (Read w)
-HasLratCause shelf cnf proof (Long w) = IsLoadingFault shelf cnf proof_limit proof proof_limit (Long w)
+HasLratCause shelf cnf proof (Read w) = IsLoadingFault shelf (lrat_files cnf proof) (Read w)
+HasLratCause shelf cnf proof (Long w) = IsLoadingFault shelf (lrat_files cnf proof) (Long w)
 HasLratCause shelf cnf proof (OfCnf f) = RefusesCnf shelf.held cnf proof f
 HasLratCause shelf cnf proof Memory = ⊤
 HasLratCause shelf cnf proof Usage = ⊥

@@ -1,7 +1,8 @@
 //! The inputs of a verification: two files, loaded in the order of their words and then read.
 
-ghost use Rattle.std.specs.Prelude.{◌≡◌, ◌≤◌, ◌<◌, ◌^◌, [], IfOk, IfErr, length};
-ghost use Rattle.hk_verify.specs.Inputs.{ShelfView, AreRead, HasCause, IsSmall, ReadsTo};
+ghost use Rattle.std.specs.Prelude.{◌≡◌, ◌<◌, ◌^◌, [], IfOk, IfErr, length};
+ghost use Rattle.std.specs.Result.{result_err};
+ghost use Rattle.hk_verify.specs.Inputs.{ShelfView, AreRead, CountsLoads, HasCause, IsSmall, ReadsTo};
 ghost use Rattle.hk_verify.specs.Kernels.{IsTheKernel, IsKernelStop};
 
 use crate::answer::TopFault;
@@ -80,8 +81,8 @@ pub fn read_inputs<F: Shelf>(
     ensures fault { IfErr result (λ fault.
         let view : ShelfView = record { held = F.held shelf.old; before = F.faults shelf.old; after = F.faults shelf.new } in
         HasCause view kernel.now spec.now [] fault) }
+    ensures counts { CountsLoads (result_err result) (F.faults shelf.old) (F.faults shelf.new) }
     ensures held { F.held shelf.new ≡ F.held shelf.old }
-    ensures later { F.faults shelf.old ≤ F.faults shelf.new }
 {
     let texts = load_both(alloc, shelf, kernel, KERNEL_LIMIT, spec, SPEC_LIMIT)?;
     read_both(alloc, &texts.first, &texts.second)

@@ -1,7 +1,8 @@
 //! Files that the words of a command name, loaded in the order of the words.
 
-ghost use Rattle.std.specs.Prelude.{◌≡◌, ◌≤◌, IfOk, IfErr};
-ghost use Rattle.hk_verify.specs.Inputs.{ShelfView, AreLoaded, IsLoaded, IsLoadFault, IsLoadingFault};
+ghost use Rattle.std.specs.Prelude.{◌≡◌, ◌∷◌, [], IfOk, IfErr};
+ghost use Rattle.std.specs.Result.{result_err};
+ghost use Rattle.hk_verify.specs.Inputs.{AreLoaded, CountsLoads, IsLoaded, IsLoadFault, IsLoadingFault, asked, seen};
 
 use crate::answer::TopFault;
 use hk_io::{LoadFault, Shelf};
@@ -28,10 +29,11 @@ fn load<F: Shelf>(
     name: &str,
     limit: u32,
 ) -> Result<Vec<u8>, TopFault>
-    ensures loaded { IfOk result (λ text. IsLoaded (F.held shelf.old) name.now limit text.items) }
-    ensures fault { IfErr result (IsLoadFault (F.held shelf.old) (F.faults shelf.old) (F.faults shelf.new) word name.now limit) }
+    ensures loaded { IfOk result (λ text. IsLoaded (F.held shelf.old) (asked word name.now limit) text.items) }
+    ensures fault { IfErr result
+        (IsLoadFault (seen (F.held shelf.old) (F.faults shelf.old) (F.faults shelf.new)) (asked word name.now limit)) }
+    ensures counts { CountsLoads (result_err result) (F.faults shelf.old) (F.faults shelf.new) }
     ensures held { F.held shelf.new ≡ F.held shelf.old }
-    ensures later { F.faults shelf.old ≤ F.faults shelf.new }
 {
     match shelf.load(alloc, name, limit) {
         Ok(text) => Ok(text),
@@ -50,12 +52,12 @@ pub fn load_both<F: Shelf>(
     second: &str,
     second_limit: u32,
 ) -> Result<Texts, TopFault>
-    ensures loaded { IfOk result (λ texts. AreLoaded (F.held shelf.old) first.now first_limit second.now second_limit texts.first.items texts.second.items) }
-    ensures fault { IfErr result (λ fault.
-        let view : ShelfView = record { held = F.held shelf.old; before = F.faults shelf.old; after = F.faults shelf.new } in
-        IsLoadingFault view first.now first_limit second.now second_limit fault) }
+    ensures loaded { IfOk result (λ texts. AreLoaded (F.held shelf.old)
+        (asked 1 first.now first_limit ∷ asked 2 second.now second_limit ∷ []) (texts.first.items ∷ texts.second.items ∷ [])) }
+    ensures fault { IfErr result (IsLoadingFault (seen (F.held shelf.old) (F.faults shelf.old) (F.faults shelf.new))
+        (asked 1 first.now first_limit ∷ asked 2 second.now second_limit ∷ [])) }
+    ensures counts { CountsLoads (result_err result) (F.faults shelf.old) (F.faults shelf.new) }
     ensures held { F.held shelf.new ≡ F.held shelf.old }
-    ensures later { F.faults shelf.old ≤ F.faults shelf.new }
 {
     let first = load(alloc, shelf, FIRST_WORD, first, first_limit)?;
     let second = load(alloc, shelf, SECOND_WORD, second, second_limit)?;

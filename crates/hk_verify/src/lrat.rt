@@ -1,5 +1,6 @@
 //! The command `lrat CNF PROOF`.
 
+ghost use Rattle.std.specs.Result.{result_err};
 ghost use Rattle.std.specs.Prelude.{◌≡◌, ◌≤◌, ◌<◌, ◌^◌, [], Some, None, Ok, Err, IfOk, IfErr, OnOk, OnErr, length};
 ghost use Rattle.hk_io.specs.Faults.{Rose};
 ghost use Rattle.hk_io.specs.Shown.{shown_with, ShowsPrefix};
@@ -7,8 +8,8 @@ ghost use Rattle.hk_cnf.specs.Clauses.{IsUnsatisfiable};
 ghost use Rattle.hk_cnf.specs.Dimacs.{dimacs_of};
 ghost use Rattle.hk_lrat.specs.Refutes.{Answers};
 ghost use Rattle.hk_verify.specs.declared.answer.TopFault.TheVariants.{Memory as OfMemory};
-ghost use Rattle.hk_verify.specs.Inputs.{ShelfView};
-ghost use Rattle.hk_verify.specs.Answers.{SinkView};
+ghost use Rattle.hk_verify.specs.Inputs.{ShelfView, CountsLoads};
+ghost use Rattle.hk_verify.specs.Answers.{SinkView, HidesNone};
 ghost use Rattle.hk_verify.specs.Words.{bytes_of};
 ghost use Rattle.hk_verify.specs.Lrat.{HasLratCause, IsTried, MeansLrat, ReadsCnf, Tells, proof_fault, proof_status, proof_text, row_code};
 
@@ -76,6 +77,7 @@ fn try_proof<F: Shelf>(
     ensures fault { IfErr result (λ fault.
         let view : ShelfView = record { held = F.held shelf.old; before = F.faults shelf.old; after = F.faults shelf.new } in
         HasLratCause view cnf.now proof.now fault) }
+    ensures counts { CountsLoads (result_err result) (F.faults shelf.old) (F.faults shelf.new) }
     ensures held { F.held shelf.new ≡ F.held shelf.old }
 {
     let texts = load_both(alloc, shelf, cnf, PROOF_LIMIT, proof, PROOF_LIMIT)?;
@@ -103,6 +105,7 @@ fn put_refused<O: Sink>(out: &mut O, row: u64, reason: RowReason) -> Result<(), 
     ensures whole { OnOk result (O.shown out.new ≡ shown_with (O.shown out.old) (proof_text (Some (row, reason)))) }
     ensures cut { OnErr result (ShowsPrefix (O.shown out.old) (O.shown out.new) (proof_text (Some (row, reason)))) }
     ensures failed { OnErr result (Rose (O.faults out.old) (O.faults out.new)) }
+    ensures still { OnOk result (O.faults out.new ≡ O.faults out.old) }
 {
     put_line(
         out,
@@ -120,6 +123,7 @@ fn put_outcome<O: Sink>(out: &mut O, outcome: Option<(u64, RowReason)>) -> Resul
     ensures whole { OnOk result (O.shown out.new ≡ shown_with (O.shown out.old) (proof_text outcome)) }
     ensures cut { OnErr result (ShowsPrefix (O.shown out.old) (O.shown out.new) (proof_text outcome)) }
     ensures failed { OnErr result (Rose (O.faults out.old) (O.faults out.new)) }
+    ensures still { OnOk result (O.faults out.new ≡ O.faults out.old) }
 {
     match outcome {
         None => put_line(out, &[Part::Text(b"refuted")]),
@@ -170,6 +174,9 @@ pub fn lrat<'x, F: Shelf, O: Sink>(
     ensures meaning { let view : ShelfView = record { held = F.held shelf.old; before = F.faults shelf.old; after = F.faults shelf.new } in
         let sink : SinkView = record { shown = O.shown out.old; shown' = O.shown out.new; faults = O.faults out.old; faults' = O.faults out.new } in
         MeansLrat view sink (bytes_of words.now) cnf.now proof.now result }
+    ensures unhidden { let view : ShelfView = record { held = F.held shelf.old; before = F.faults shelf.old; after = F.faults shelf.new } in
+        let sink : SinkView = record { shown = O.shown out.old; shown' = O.shown out.new; faults = O.faults out.old; faults' = O.faults out.new } in
+        HidesNone view sink result }
     ensures held { F.held shelf.new ≡ F.held shelf.old }
 {
     match try_proof(alloc, shelf, cnf, proof) {

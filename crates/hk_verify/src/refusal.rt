@@ -92,7 +92,7 @@ fn put_text<O: Sink>(out: &mut O, text: &[u8]) -> Result<(), SinkFault>
     ensures whole { OnOk result (O.shown out.new ≡ shown_with (O.shown out.old) (line (text.now ∷ []))) }
     ensures cut { OnErr result (ShowsPrefix (O.shown out.old) (O.shown out.new) (line (text.now ∷ []))) }
     ensures failed { OnErr result (Rose (O.faults out.old) (O.faults out.new)) }
-    ensures later { O.faults out.old ≤ O.faults out.new }
+    ensures still { OnOk result (O.faults out.new ≡ O.faults out.old) }
 {
     put_line(out, &[Part::Text(text)])
 }
@@ -102,7 +102,7 @@ fn put_named<'x, O: Sink>(out: &mut O, text: &'x [u8], name: &'x [u8]) -> Result
     ensures whole { OnOk result (O.shown out.new ≡ shown_with (O.shown out.old) (line (text.now ∷ name.now ∷ []))) }
     ensures cut { OnErr result (ShowsPrefix (O.shown out.old) (O.shown out.new) (line (text.now ∷ name.now ∷ []))) }
     ensures failed { OnErr result (Rose (O.faults out.old) (O.faults out.new)) }
-    ensures later { O.faults out.old ≤ O.faults out.new }
+    ensures still { OnOk result (O.faults out.new ≡ O.faults out.old) }
 {
     put_line(out, &[Part::Text(text), Part::Text(name)])
 }
@@ -117,7 +117,7 @@ fn put_coded<'x, O: Sink>(
     ensures whole { OnOk result (O.shown out.new ≡ shown_with (O.shown out.old) (coded_line text.now number code.now)) }
     ensures cut { OnErr result (ShowsPrefix (O.shown out.old) (O.shown out.new) (coded_line text.now number code.now)) }
     ensures failed { OnErr result (Rose (O.faults out.old) (O.faults out.new)) }
-    ensures later { O.faults out.old ≤ O.faults out.new }
+    ensures still { OnOk result (O.faults out.new ≡ O.faults out.old) }
 {
     put_line(
         out,
@@ -140,7 +140,7 @@ fn put_fault<O: Sink>(
     ensures whole { OnOk result (O.shown out.new ≡ shown_with (O.shown out.old) (fault_text (bytes_of words.now) name.now fault)) }
     ensures cut { OnErr result (ShowsPrefix (O.shown out.old) (O.shown out.new) (fault_text (bytes_of words.now) name.now fault)) }
     ensures failed { OnErr result (Rose (O.faults out.old) (O.faults out.new)) }
-    ensures later { O.faults out.old ≤ O.faults out.new }
+    ensures still { OnOk result (O.faults out.new ≡ O.faults out.old) }
 {
     match fault {
         TopFault::Usage => put_text(out, b"usage: hkv verify, check, replay, lrat, run or bench"),
@@ -171,7 +171,6 @@ pub fn refuse<O: Sink>(
     ensures fault { result.fault ≡ Some fault }
     ensures refused { let sink : SinkView = record { shown = O.shown out.old; shown' = O.shown out.new; faults = O.faults out.old; faults' = O.faults out.new } in
         IsRefused sink (bytes_of words.now) name.now fault result }
-    ensures later { O.faults out.old ≤ O.faults out.new }
 {
     let status = status(&fault);
     let _ = put_fault(out, words, name, fault);

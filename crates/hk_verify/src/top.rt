@@ -3,7 +3,7 @@
 ghost use Rattle.std.specs.Prelude.{◌≡◌, ◌∷◌, [], List, ℕ, IfSome, IfNone};
 ghost use Rattle.hk_verify.specs.Words.{HasNoForm, IsLrat, IsVerify, bytes_of};
 ghost use Rattle.hk_verify.specs.Inputs.{ShelfView};
-ghost use Rattle.hk_verify.specs.Answers.{SinkView, IsUsage, Means};
+ghost use Rattle.hk_verify.specs.Answers.{SinkView, HidesNone, IsUsage, Means};
 ghost use Rattle.hk_verify.specs.Headline.{AcceptsCorrect, RejectsRefuted};
 ghost use Rattle.hk_verify.specs.Lrat.{MeansLrat, RefutesSoundly};
 
@@ -61,7 +61,10 @@ pub fn run_words<F: Shelf, O: Sink>(
     ensures usage { HasNoForm (bytes_of words.now) →
         let sink : SinkView = record { shown = O.shown out.old; shown' = O.shown out.new; faults = O.faults out.old; faults' = O.faults out.new } in
         IsUsage sink (bytes_of words.now) result }
-    ensures unread { HasNoForm (bytes_of words.now) → F.faults shelf.new ≡ F.faults shelf.old }
+    // no fault of the outside is hidden: a load that failed is named, and where nothing is named no put failed
+    ensures unhidden { let view : ShelfView = record { held = F.held shelf.old; before = F.faults shelf.old; after = F.faults shelf.new } in
+        let sink : SinkView = record { shown = O.shown out.old; shown' = O.shown out.new; faults = O.faults out.old; faults' = O.faults out.new } in
+        HidesNone view sink result }
     ensures held { F.held shelf.new ≡ F.held shelf.old }
 {
     if let Some((kernel, spec)) = names_behind(words, "verify") {

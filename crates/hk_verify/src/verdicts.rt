@@ -57,7 +57,7 @@ fn decide_next<O: Sink>(
     ensures whole { OnOk result (Adds kernel.now spec.now transition.now verdicts.old.items verdicts.new.items (O.shown out.old) (O.shown out.new)) }
     ensures cut { OnErr result (AddsCut kernel.now spec.now transition.now verdicts.old.items verdicts.new.items (O.shown out.old) (O.shown out.new)) }
     ensures failed { OnErr result (Rose (O.faults out.old) (O.faults out.new)) }
-    ensures later { O.faults out.old ≤ O.faults out.new }
+    ensures still { OnOk result (O.faults out.new ≡ O.faults out.old) }
     ensures room { vec_capacity verdicts.new ≡ vec_capacity verdicts.old }
     ensures counted { vec_len verdicts.new ≡ vec_len verdicts.old + 1 }
 {
@@ -85,7 +85,7 @@ pub fn decide_all<O: Sink>(
     ensures whole { OnOk result (AreShown kernel.now spec.now verdicts.new.items (O.shown out.old) (O.shown out.new)) }
     ensures cut { OnErr result (AreCut kernel.now spec.now verdicts.new.items (O.shown out.old) (O.shown out.new)) }
     ensures failed { OnErr result (Rose (O.faults out.old) (O.faults out.new)) }
-    ensures later { O.faults out.old ≤ O.faults out.new }
+    ensures still { OnOk result (O.faults out.new ≡ O.faults out.old) }
 {
     for transition in spec.transitions.as_slice() {
         decide_next(alloc, kernel, spec, transition, verdicts, out)?;

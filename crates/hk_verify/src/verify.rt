@@ -7,8 +7,9 @@ ghost use Rattle.hk_report.specs.declared.verdict.InitVerdict.TheVariants.{Holds
 ghost use Rattle.hk_verify.specs.declared.answer.TopFault.TheVariants.{Write};
 ghost use Rattle.hk_verify.specs.Lines.{verdict_status, is_rejection as is_rejection_of, is_memory as is_memory_of};
 ghost use Rattle.hk_verify.specs.Inputs.{ShelfView, AreNarrow, IsSmall};
-ghost use Rattle.hk_verify.specs.Answers.{SinkView, Means, Reports};
-ghost use Rattle.hk_verify.specs.Words.{bytes_of};
+ghost use Rattle.hk_verify.specs.Answers.{SinkView, HidesNone, Means, Reports};
+ghost use Rattle.hk_verify.specs.Headline.{AcceptsCorrect, RejectsRefuted};
+ghost use Rattle.hk_verify.specs.Words.{IsVerify, bytes_of};
 
 use crate::answer::{Answer, TopFault};
 use crate::inputs::{Inputs, read_inputs};
@@ -112,8 +113,32 @@ fn report<O: Sink>(
     }
 }
 
-/// Does `verify KERNEL SPEC`: both files are loaded and read, and the handlers are decided and reported.
+/// Does `verify KERNEL SPEC`, the words that name these two files: both are loaded and read, and the handlers are decided
+/// and reported.
 pub fn verify<'x, F: Shelf, O: Sink>(
+    alloc: Global,
+    words: &'x [String],
+    kernel: &'x str,
+    spec: &'x str,
+    shelf: &mut F,
+    out: &mut O,
+) -> Answer
+    requires { IsVerify (bytes_of words.now) kernel.now spec.now }
+    ensures accepted { AcceptsCorrect (F.held shelf.old) (bytes_of words.now) result }
+    ensures rejected { RejectsRefuted (F.held shelf.old) (bytes_of words.now) result }
+    ensures meaning { let view : ShelfView = record { held = F.held shelf.old; before = F.faults shelf.old; after = F.faults shelf.new } in
+        let sink : SinkView = record { shown = O.shown out.old; shown' = O.shown out.new; faults = O.faults out.old; faults' = O.faults out.new } in
+        Means view sink (bytes_of words.now) kernel.now spec.now result }
+    ensures unhidden { let view : ShelfView = record { held = F.held shelf.old; before = F.faults shelf.old; after = F.faults shelf.new } in
+        let sink : SinkView = record { shown = O.shown out.old; shown' = O.shown out.new; faults = O.faults out.old; faults' = O.faults out.new } in
+        HidesNone view sink result }
+    ensures held { F.held shelf.new ≡ F.held shelf.old }
+{
+    load_and_report(alloc, words, kernel, spec, shelf, out)
+}
+
+/// Loads and reads both files, decides the handlers and reports them.
+fn load_and_report<'x, F: Shelf, O: Sink>(
     alloc: Global,
     words: &'x [String],
     kernel: &'x str,
@@ -124,6 +149,9 @@ pub fn verify<'x, F: Shelf, O: Sink>(
     ensures meaning { let view : ShelfView = record { held = F.held shelf.old; before = F.faults shelf.old; after = F.faults shelf.new } in
         let sink : SinkView = record { shown = O.shown out.old; shown' = O.shown out.new; faults = O.faults out.old; faults' = O.faults out.new } in
         Means view sink (bytes_of words.now) kernel.now spec.now result }
+    ensures unhidden { let view : ShelfView = record { held = F.held shelf.old; before = F.faults shelf.old; after = F.faults shelf.new } in
+        let sink : SinkView = record { shown = O.shown out.old; shown' = O.shown out.new; faults = O.faults out.old; faults' = O.faults out.new } in
+        HidesNone view sink result }
     ensures held { F.held shelf.new ≡ F.held shelf.old }
 {
     let inputs = match read_inputs(alloc, shelf, kernel, spec) {

@@ -17,7 +17,7 @@ loop-place-preserved g c =
     let args = c.args.args.now in
     let put = c.in_ok-put_arg.ensures in
     shows_more arg_text (enumerate_from 0 args) c.loop-place.place (0, 0) _ _ _ _ _ _ _ (arg_within args c.loop-place.place c.loop-place-test.true) (arg_at args c.loop-place.place c.loop-place-test.true)
-    c.loop-place.invariant (record { whole = put.whole; later = put.later; fits = λ _. put.fits })
+    c.loop-place.invariant (record { whole = put.whole; still = put.still })
 
 pub returns-clause-whole : goal.returns-clause-whole
 returns-clause-whole g c =

@@ -27,7 +27,7 @@ loop-k-preserved g c =
     let k = c.loop-k.k in
     let put = c.in_ok-put_row.ensures in
     shows_more (λ k. row_text name (16 * k) (row_of bytes k)) (range_with_len 0 n) k 0 _ _ _ _ _ _ _ (row_within _ n k count c.loop-k-test.true) (row_at _ n k count c.loop-k-test.true)
-    c.loop-k.invariant (record { whole = rw c.row_at.ensures at put.whole; later = put.later; fits = put.fits })
+    c.loop-k.invariant (record { whole = rw c.row_at.ensures at put.whole; still = put.still })
 
 pub returns-clause-whole : goal.returns-clause-whole
 returns-clause-whole g c =

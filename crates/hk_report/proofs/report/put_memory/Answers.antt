@@ -16,7 +16,7 @@ loop-global-preserved g c =
     let put = c.in_ok-put_global.ensures in
     shows_next (λ global. global_text global.0.name (global.1 ∷ [])) (zip globals memory) (length done) _ _ (c.in-Some.global.now, c.in-Some.byte.now) _ _ _ _ _ _
     (pair_within globals memory (length done) turn.0 turn.1) (pair_at globals memory (length done) _ _ turn.0 turn.1 (turn.2 _) (turn.3 _)) (one_longer done _)
-    c.loop-global.invariant (record { whole = rw c.as_slice-in-loop-global.ensures at put.whole; later = put.later; fits = put.fits })
+    c.loop-global.invariant (record { whole = rw c.as_slice-in-loop-global.ensures at put.whole; still = put.still })
 
 pub returns-in_err-put_global-clause-cut : goal.returns-in_err-put_global-clause-cut
 returns-in_err-put_global-clause-cut g c =

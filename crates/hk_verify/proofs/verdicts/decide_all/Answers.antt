@@ -1,4 +1,4 @@
-use Rattle.std.proofs.Common.{◌≤◌, ◌+◌, refl, ap, sym, ◌∙◌, arith}
+use Rattle.std.proofs.Common.{◌+◌, refl, ap, sym, ◌∙◌}
 use Rattle.std.proofs.lemmas.Result.{err_from_is_err_and}
 use Rattle.hk_verify.proofs.Pushes.{goes_on_at, is_cut_at, none_yet, all_shown}
 use Rattle.hk_verify.proofs.verdicts.decide_all.Goals as goal
@@ -8,7 +8,7 @@ loop-transition-init g c = record {
   so_far = none_yet c.args.kernel.now c.args.spec.now c.args.verdicts.now.items _ c.requires.empty;
   room = refl;
   counted = c.requires.unused;
-  later = omega arith;
+  still = refl;
 }
 
 pub returns-in_err-decide_next-clause-cut : goal.returns-in_err-decide_next-clause-cut
@@ -23,5 +23,5 @@ loop-transition-preserved g c = record {
       c.as_slice-transition-items.ensures c.loop-transition-test.true c.transition-item.is c.loop-transition.invariant.so_far c.in_ok-decide_next.ensures.whole;
   room = c.decide_next.ensures.room ∙ c.loop-transition.invariant.room;
   counted = c.decide_next.ensures.counted ∙ ap (λ n. n + 1) c.loop-transition.invariant.counted;
-  later = omega (arith, c.loop-transition.invariant.later, c.decide_next.ensures.later);
+  still = c.in_ok-decide_next.ensures.still ∙ c.loop-transition.invariant.still;
 }

@@ -8,4 +8,6 @@ returns g c =
     whole_report _ c.args.inputs.now.kernel c.args.inputs.now.spec _ _ _
     (where_ok c.put_init.result _ (sym c.is_err.ensures.value ∙ c.if-is_err.false) c.put_init.ensures.whole)
     (where_ok c.decide_all.result _ (sym c.is_err-2.ensures.value ∙ c.if-is_err-2.false) c.decide_all.ensures.whole)
+    (where_ok c.decide_all.result _ (sym c.is_err-2.ensures.value ∙ c.if-is_err-2.false) c.decide_all.ensures.still
+    ∙ where_ok c.put_init.result _ (sym c.is_err.ensures.value ∙ c.if-is_err.false) c.put_init.ensures.still)
     refl c.from_vec.ensures (c.status_of.ensures ∙ ap verdict_status c.deref.ensures.value)
