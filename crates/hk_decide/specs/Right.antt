@@ -1,33 +1,22 @@
 -- When a verdict is right.
 
-use Rattle.std.specs.Prelude.{◌<◌, ⊤}
+use Rattle.std.specs.Prelude.{ℕ, ◌≡◌, All, Some, slice_get, take, ⊤}
 use Rattle.ir_thin.specs.declared.tree.Kernel.{Kernel}
 use Rattle.spec_thin.specs.declared.tree.Spec.{Spec}
 use Rattle.spec_thin.specs.declared.tree.Transition.{Transition}
 use Rattle.hk_replay.specs.declared.Obligation.{Obligation}
-use Rattle.hk_replay.specs.declared.Obligation.TheVariants.{Undefined, State}
 use Rattle.hk_replay.specs.declared.Case.{Case}
-use Rattle.hk_replay.specs.Violation.{IsCase, IsCorrect, IsNeverViolated, IsObligation, Violates}
+use Rattle.hk_replay.specs.Violation.{IsCase, IsCorrect, IsNeverViolated, Violates, obligations_of}
 use Rattle.hk_report.specs.declared.verdict.Verdict.{Verdict}
 use Rattle.hk_report.specs.declared.verdict.Verdict.TheVariants.{Accepted, Rejected, Memory}
 
--- The first obligation stands before the second: `undefined`, and then the fields in class order.
-abbrev pub IsBefore : Obligation → Obligation → Type 0
-IsBefore Undefined Undefined = ⊥
-IsBefore Undefined (State f) = ⊤
-IsBefore (State e) Undefined = ⊥
-IsBefore (State e) (State f) = e < f
-
--- No case violates an obligation of the handler that stands before this one.
-abbrev pub IsFirstViolated : Kernel → Spec → Transition → Obligation → Type 0
-IsFirstViolated kernel spec t o = (before : Obligation) → IsObligation spec before → IsBefore before o → IsNeverViolated kernel spec t before
-
--- The case violates the obligation of the handler, which is its first one that is violated.
+-- The case violates this obligation of the handler, and no case violates one that stands before it.
 pub record IsRefuted (kernel : Kernel) (spec : Spec) (t : Transition) (o : Obligation) (c : Case) : Type 0 where
-  pub owed : IsObligation spec o
+  pub place : ℕ
+  pub owed : slice_get (obligations_of spec) place ≡ Some o
   pub case_of : IsCase kernel t c
   pub violates : Violates kernel spec t o c
-  pub first : IsFirstViolated kernel spec t o
+  pub first : All (IsNeverViolated kernel spec t) (take place (obligations_of spec))
 
 -- An accepted handler is correct; a rejected one is refuted by its case. Want of memory says nothing of the handler.
 abbrev pub IsRight : Kernel → Spec → Transition → Verdict → Type 0

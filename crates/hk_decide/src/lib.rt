@@ -4,13 +4,12 @@
 //! violates, with the case, or that the handler is correct. `specs/Right.antt` says when a verdict is right.
 #![tactic(auto)]
 
-ghost use Rattle.std.specs.Prelude.{◌≡◌, ◌≤◌, ◌<◌, ◌^◌, IfOk, MatchOption, length};
-ghost use Rattle.hk_replay.specs.Violation.{IsNeverViolated, case_bits};
-ghost use Rattle.hk_replay.specs.declared.Obligation.TheVariants.{State};
+ghost use Rattle.std.specs.Prelude.{◌≡◌, ◌≤◌, ◌<◌, ◌^◌, IfOk, length};
+ghost use Rattle.hk_replay.specs.Violation.{case_bits};
 ghost use Rattle.hk_report.specs.declared.verdict.Verdict.TheVariants.{Memory};
-ghost use Rattle.hk_decide.specs.Right.{IsRight, IsRefuted};
+ghost use Rattle.hk_decide.specs.Right.{IsRight};
 
-use hk_replay::{Obligation, find_in_all};
+use hk_replay::{find_in_all, obligations};
 use hk_report::Verdict;
 use ir_thin::tree::Kernel;
 use spec_thin::tree::{Spec, Transition};
@@ -31,14 +30,12 @@ pub fn decide(
     ensures right { IfOk result (λ verdict. IsRight kernel.now spec.now transition.now verdict) }
     ensures decided { IfOk result (λ verdict. verdict ≡ Memory → ⊥) }
 {
-    let obligation = Obligation::Undefined;
-    if let Some(case) = find_in_all(alloc, kernel, spec, transition, obligation)? {
-        return Ok(Verdict::Rejected { obligation, case });
-    }
-    for field in 0..spec.fields.len() as u32 {
-        let obligation = Obligation::State(field);
-        if let Some(case) = find_in_all(alloc, kernel, spec, transition, obligation)? {
-            return Ok(Verdict::Rejected { obligation, case });
+    let obligations = obligations(alloc, spec)?;
+    for obligation in obligations.as_slice() {
+        let obligation = *obligation;
+        match find_in_all(alloc, kernel, spec, transition, obligation)? {
+            Some(case) => return Ok(Verdict::Rejected { obligation, case }),
+            None => {}
         }
     }
     Ok(Verdict::Accepted)

@@ -1,7 +1,8 @@
 -- When a handler is correct: no case violates one of its obligations. From the refinement theorem of Nelson et al.,
 -- Hyperkernel, SOSP 2017.
 
-use Rattle.std.specs.Prelude.{ℕ, ◌+◌, ◌*◌, ◌^◌, ◌<◌, ◌≡◌, ◌≢◌, List, All, ⊤, length, slice_index}
+use Rattle.std.specs.Prelude.{ℕ, ◌+◌, ◌*◌, ◌^◌, ◌<◌, ◌≡◌, ◌≢◌, List, ◌∷◌, All, Some, ⊤, length, map, slice_get, slice_index}
+use Rattle.std.specs.List.{range_with_len}
 use Rattle.ir_thin.specs.declared.tree.Kernel.{Kernel}
 use Rattle.spec_thin.specs.declared.tree.Spec.{Spec}
 use Rattle.spec_thin.specs.declared.tree.Field.{Field}
@@ -13,10 +14,11 @@ use Rattle.hk_replay.specs.declared.Obligation.TheVariants.{Undefined, State}
 use Rattle.hk_replay.specs.declared.Case.{Case}
 use Rattle.hk_replay.specs.declared.Case.TheVariants.{Machine}
 
--- The run is stuck. No instruction of a thin kernel is undefined anywhere, so no end is of this kind.
+-- The run comes to no return. No instruction of a thin kernel is undefined anywhere, and its runs end, so that no end is
+-- of this kind; a run without an end is a violation all the same.
 abbrev pub IsStuck : End → Type 0
 IsStuck (Returned memory) = ⊥
-IsStuck Unfinished = ⊥
+IsStuck Unfinished = ⊤
 
 -- A run from this machine state with these arguments, and with this end, violates the obligation. A thin
 -- specification has no invariants, so every machine state satisfies them.
@@ -30,10 +32,13 @@ Breaks fields t memory args (State f) Unfinished = ⊥
 abbrev pub Violates : Kernel → Spec → Transition → Obligation → Case → Type 0
 Violates kernel spec t o (Machine memory args) = Breaks spec.fields t memory args o (run kernel t.function args memory)
 
--- The obligations of a handler: nothing undefined, and the end state of each field.
+-- The obligations of a handler, in the order in which they are decided and reported: nothing undefined, and then the
+-- end state of each field in class order.
+abbrev pub obligations_of : Spec → List Obligation
+obligations_of spec = Undefined ∷ map State (range_with_len 0 (length spec.fields))
+
 abbrev pub IsObligation : Spec → Obligation → Type 0
-IsObligation spec Undefined = ⊤
-IsObligation spec (State f) = f < length spec.fields
+IsObligation spec o = (place : ℕ) × (slice_get (obligations_of spec) place ≡ Some o)
 
 -- The cases of a handler: each machine state with each list of arguments.
 pub record IsMachineCase (kernel : Kernel) (t : Transition) (memory args : List ℕ) : Type 0 where
@@ -51,7 +56,7 @@ IsNeverViolated kernel spec t o = (c : Case) → IsCase kernel t c → Violates 
 
 -- The handler is correct: no case violates any of its obligations.
 abbrev pub IsCorrect : Kernel → Spec → Transition → Type 0
-IsCorrect kernel spec t = (o : Obligation) → IsObligation spec o → IsNeverViolated kernel spec t o
+IsCorrect kernel spec t = All (IsNeverViolated kernel spec t) (obligations_of spec)
 
 -- The bits of a case: eight for each global and each parameter.
 abbrev pub case_bits : Kernel → Transition → ℕ

@@ -5,9 +5,11 @@
 #![tactic(auto)]
 
 mod cases;
+mod owed;
 mod search;
 
 use hk_seq::Seq;
+pub use owed::obligations;
 pub use search::find_in_all;
 
 /// What a handler owes: a part of its correctness that a case may violate.
