@@ -64,11 +64,11 @@ goes_on Plain open_marks = not (is_none_open open_marks)
 goes_on (Head listed after_word) open_marks = true
 goes_on Body open_marks = false
 
--- a `define` that is no label
+-- a `define` that is no label on its line
 abbrev pub begins_define : List Lexeme → Bool
 begins_define [] = false
 begins_define (t ∷ []) = is_word (codes "define") t
-begins_define (t ∷ u ∷ ts) = is_word (codes "define") t && not (is_mark 58 u)
+begins_define (t ∷ u ∷ ts) = is_word (codes "define") t && not (is_mark 58 u && u.line == t.line)
 
 abbrev pub scan_at : List Lexeme → Scan
 scan_at ts = record { extent = (if begins_define ts then Head false false else Plain); brackets = [] }

@@ -150,6 +150,13 @@ label_length ts = if begins_label ts then 2 else 0
 unfoldable pub remaining : List Lexeme → List Lexeme
 remaining ts = take (label_length ts) ts ++ remaining_from 0 false (drop (label_length ts) ts)
 
+-- a label: NAME and `:` alone
+abbrev pub is_label : List Lexeme → Bool
+is_label [] = false
+is_label (t ∷ []) = false
+is_label (t ∷ u ∷ []) = label_kind t.kind t.text && is_mark 58 u
+is_label (t ∷ u ∷ v ∷ ts) = false
+
 -- ---- dropped items
 
 -- `source_filename`, `attributes`, a metadata name, `#dbg_..`, `target triple`
@@ -170,6 +177,10 @@ abbrev pub calls_debug : List Lexeme → Bool
 calls_debug [] = false
 calls_debug (t ∷ ts) = if is_word (codes "call") t || (is_word (codes "tail") t && front_passes (is_word (codes "call")) ts) then names_debug ts else false
 
+-- the item is a label, behind which only dropped tokens stand
+abbrev pub is_label_item : List Lexeme → Bool
+is_label_item ts = if begins_label ts then is_label (remaining ts) else false
+
 -- the item is dropped whole
 unfoldable pub is_dropped_item : List Lexeme → Bool
-is_dropped_item ts = not (begins_label ts) && (begins_dropped ts || calls_debug ts)
+is_dropped_item ts = not (is_label_item ts) && (begins_dropped ts || calls_debug ts)

@@ -78,14 +78,16 @@ pub fn takes_parentheses(token: &Token<'_>) -> bool
         || token.is_word(b"range")
 }
 
-/// Whether the tokens begin with a `define` that is no label.
-fn begins_define(tokens: &[Token<'_>]) -> bool
+/// Whether the tokens begin with a `define` that is no label on its line.
+pub fn begins_define(tokens: &[Token<'_>]) -> bool
     ensures { result ≡ definition.begins_define (lexemes tokens.now) }
 {
     match tokens {
         [] => false,
         [only] => only.is_word(b"define"),
-        [first, second, ..] => first.is_word(b"define") && !second.is_mark(b':'),
+        [first, second, ..] => {
+            first.is_word(b"define") && !(second.is_mark(b':') && second.line == first.line)
+        }
     }
 }
 

@@ -61,12 +61,33 @@ pub fn remaining<'t>(alloc: Global, tokens: &'t [Token<'t>]) -> Result<TokenList
 pub fn is_dropped_item(alloc: Global, tokens: &[Token<'_>]) -> Result<bool, AllocError>
     ensures { IfOk result (λ dropped. dropped ≡ definition.is_dropped_item (lexemes tokens.now)) }
 {
-    if begins_label(tokens) {
+    if is_label_item(alloc, tokens)? {
         Ok(false)
     } else if begins_dropped(tokens) {
         Ok(true)
     } else {
         calls_debug(alloc, tokens)
+    }
+}
+
+/// Whether the item is a label, behind which only dropped tokens stand.
+fn is_label_item(alloc: Global, tokens: &[Token<'_>]) -> Result<bool, AllocError>
+    ensures { IfOk result (λ label. label ≡ definition.is_label_item (lexemes tokens.now)) }
+{
+    if !begins_label(tokens) {
+        return Ok(false);
+    }
+    let rest = remaining(alloc, tokens)?;
+    Ok(is_label(rest.as_slice()))
+}
+
+/// Whether the tokens are a label: a word, digits or a string, and `:`.
+pub fn is_label(tokens: &[Token<'_>]) -> bool
+    ensures { result ≡ definition.is_label (lexemes tokens.now) }
+{
+    match tokens {
+        [first, second] => is_label_name(first) && second.is_mark(b':'),
+        _ => false,
     }
 }
 

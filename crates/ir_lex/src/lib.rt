@@ -15,8 +15,8 @@ mod piece;
 mod tell;
 pub mod token;
 
-pub use cut::{Item, ItemList, items};
-pub use drops::{begins_label, is_dropped_item, remaining};
+pub use cut::{Item, ItemList, begins_define, items};
+pub use drops::{begins_label, is_dropped_item, is_label, remaining};
 pub use lexer::tokens;
 pub use name::{plain_name, sigil_name};
 pub use token::{Token, TokenKind, TokenList};

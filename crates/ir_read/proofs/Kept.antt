@@ -144,4 +144,4 @@ leads_by false s c cuts next h e = never next K2 (sym e)
 
 -- both stay so behind an item
 pub still_holds : (s : State) (c : Cut) (cuts : List Cut) (next : State) → Holds s (c ∷ cuts) → Leads s c cuts next → Holds next cuts
-still_holds s c cuts next h leads = leads_by c.closed s c cuts next h leads
+still_holds s c cuts next h leads = leads_by (ends c cuts) s c cuts next h leads

@@ -11,6 +11,7 @@ use Rattle.ir_lex.specs.Items.{Top, Inner, ReadsTop, ReadsInner, holds_left_out}
 use Rattle.ir_top.proofs.TopLaws.{one_read}
 use Rattle.ir_top.proofs.RangeLaws.{one_range}
 use Rattle.ir_body.proofs.InnerLaws.{spelled_apart}
+use Rattle.ir_read.specs.Ahead.{ends}
 use Rattle.ir_read.specs.State.{State, at_start, is_inside}
 use Rattle.ir_read.specs.Reads.{Reading, passed, ranged, top_of, inner_of, refused, IsInPlace, IsOutOfPlace, Refuses, Reads}
 use Rattle.ir_read.specs.Steps.{Out, after_reading}
@@ -135,10 +136,10 @@ never : {A : Type 0} → (a : A) → (reason : KernelReason) → ◌≡◌ {A = 
 never a reason h = absurd cc
 
 one_next : (s : State) (c : Cut) (cs : List Cut) (a b : State) → Leads s c cs a → Leads s c cs b → a ≡ b
-one_next s c cs a b h i = ok_is a b (one_out c.closed s c cs (Ok a) (Ok b) h i)
+one_next s c cs a b h i = ok_is a b (one_out (ends c cs) s c cs (Ok a) (Ok b) h i)
 
 leads_or_fails : (s : State) (c : Cut) (cs : List Cut) (a : State) (reason : KernelReason) → Leads s c cs a → Fails s c cs reason → ⊥
-leads_or_fails s c cs a reason h i = never a reason (one_out c.closed s c cs (Ok a) (Err reason) h i)
+leads_or_fails s c cs a reason h i = never a reason (one_out (ends c cs) s c cs (Ok a) (Err reason) h i)
 
 -- ---- one module, one fault
 
@@ -155,7 +156,7 @@ spelled_or_fails (c ∷ cs) s m line reason h (inr i) =
 
 one_fault : (cs : List Cut) (s : State) (line other : ℕ) (reason cause : KernelReason) → FailsFrom s cs line reason → FailsFrom s cs other cause → (line ≡ other) × (reason ≡ cause)
 one_fault [] s line other reason cause h i = absurd h
-one_fault (c ∷ cs) s line other reason cause (inl h) (inl i) = (sym h.0 ∙ i.0, err_is reason cause (one_out c.closed s c cs (Err reason) (Err cause) h.1 i.1))
+one_fault (c ∷ cs) s line other reason cause (inl h) (inl i) = (sym h.0 ∙ i.0, err_is reason cause (one_out (ends c cs) s c cs (Err reason) (Err cause) h.1 i.1))
 one_fault (c ∷ cs) s line other reason cause (inl h) (inr i) = absurd (leads_or_fails s c cs i.0 reason i.1 h.1)
 one_fault (c ∷ cs) s line other reason cause (inr h) (inl i) = absurd (leads_or_fails s c cs h.0 cause h.1 i.1)
 one_fault (c ∷ cs) s line other reason cause (inr h) (inr i) =

@@ -5,6 +5,7 @@ use Rattle.ir_ast.specs.Program.{ModuleView}
 use Rattle.ir_ast.specs.declared.fault.KernelReason.{KernelReason}
 use Rattle.ir_lex.specs.Cut.{Cut, cut_of, cuts_of}
 use Rattle.ir_lex.specs.declared.cut.Item.{Item}
+use Rattle.ir_read.specs.Ahead.{ends}
 use Rattle.ir_read.specs.State.{BodyState, State, at_start}
 use Rattle.ir_read.specs.Spelling.{Leads, Fails, SpellsFrom, FailsFrom}
 use Rattle.ir_read.specs.Spelling.{Passes}
@@ -52,6 +53,6 @@ cuts_step items i d h = ap cuts_of (drop_more items i d h)
 pub cuts_end : (items : List Item) (i : ℕ) → length items ≤ i → cuts_of (drop i items) ≡ []
 cuts_end items i h = ap cuts_of (drop_all i items h)
 
-pub on_stop : (stop : Stop) (new : Whole) (s : State) (c : Cut) (rest after all : List Cut) → rest ≡ c ∷ after → Comes (Err stop) new (Passes c.closed s c after) → SoFar s rest all → IsItemStop all (stop_at c.line stop)
+pub on_stop : (stop : Stop) (new : Whole) (s : State) (c : Cut) (rest after all : List Cut) → rest ≡ c ∷ after → Comes (Err stop) new (Passes (ends c after) s c after) → SoFar s rest all → IsItemStop all (stop_at c.line stop)
 on_stop (Refused reason) new s c rest after all is fails h = on_fails s c rest after all reason is fails h
 on_stop Memory new s c rest after all is fails h = tt

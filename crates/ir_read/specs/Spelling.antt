@@ -10,22 +10,23 @@ use Rattle.ir_ast.specs.declared.module.Module.{Module}
 use Rattle.ir_lex.specs.Lexeme.{Lexeme}
 use Rattle.ir_lex.specs.Lex.{lex}
 use Rattle.ir_lex.specs.Cut.{Cut, cut}
+use Rattle.ir_read.specs.Ahead.{ends}
 use Rattle.ir_read.specs.State.{State, at_start, is_inside}
 use Rattle.ir_read.specs.Reads.{Reading, Reads}
 use Rattle.ir_read.specs.Steps.{Out, after_reading}
 
--- what comes of an item, behind this state and before these others: one that never closes is refused
+-- what comes of an item, behind this state and before these others: one that never ends is refused
 abbrev pub Passes : Bool → State → Cut → List Cut → Out State → Type 0
 Passes false s c after out = out ≡ Err K2
 Passes true s c after out = (r : Reading) × Reads (is_inside s) r c.lexemes × (out ≡ after_reading r c.line after s)
 
 -- the item is read, and leads to this state
 abbrev pub Leads : State → Cut → List Cut → State → Type 0
-Leads s c after next = Passes c.closed s c after (Ok next)
+Leads s c after next = Passes (ends c after) s c after (Ok next)
 
 -- the item fails, for this reason
 abbrev pub Fails : State → Cut → List Cut → KernelReason → Type 0
-Fails s c after reason = Passes c.closed s c after (Err reason)
+Fails s c after reason = Passes (ends c after) s c after (Err reason)
 
 -- the items spell the module, behind this state
 abbrev pub SpellsFrom : State → List Cut → ModuleView → Type 0

@@ -2,10 +2,10 @@
 
 ghost use Rattle.std.specs.Prelude.{◌≡◌, IfOk};
 ghost use Rattle.ir_lex.specs.Lexeme.{lexemes};
-ghost use Rattle.ir_lex.specs.Cut.{cuts_of};
+ghost use Rattle.ir_lex.specs.Cut.{cut_of, cuts_of};
 ghost use Rattle.ir_read.specs.Ahead as definition;
 
-use ir_lex::{Item, Token, begins_label, is_dropped_item, remaining};
+use ir_lex::{Item, Token, begins_define, is_dropped_item, is_label, remaining};
 use std::alloc::{AllocError, Global};
 
 /// Whether there is only the mark of this byte.
@@ -53,13 +53,24 @@ pub fn begins_unlabelled(alloc: Global, items: &[Item<'_>]) -> Result<bool, Allo
     Ok(false)
 }
 
-/// Whether an item is neither a label nor `}`.
+/// Whether what remains of an item is neither a label nor `}`.
 fn begins_block(alloc: Global, tokens: &[Token<'_>]) -> Result<bool, AllocError>
     ensures { IfOk result (λ begins. begins ≡ definition.begins_block (lexemes tokens.now)) }
 {
-    if begins_label(tokens) {
+    let rest = remaining(alloc, tokens)?;
+    Ok(!is_label(rest.as_slice()) && !is_only_mark(b'}', rest.as_slice()))
+}
+
+/// Whether an item ends: its brackets are closed, and where it is a `define` some item behind it closes the body.
+pub fn ends(alloc: Global, item: &Item<'_>, after: &[Item<'_>]) -> Result<bool, AllocError>
+    ensures { IfOk result (λ ends. ends ≡ definition.ends (cut_of item.now) (cuts_of after.now)) }
+{
+    if !item.closed {
         return Ok(false);
     }
-    let rest = remaining(alloc, tokens)?;
-    Ok(!is_only_mark(b'}', rest.as_slice()))
+    if begins_define(item.tokens) {
+        holds_close(alloc, after)
+    } else {
+        Ok(true)
+    }
 }

@@ -2,6 +2,7 @@
 
 ghost use Rattle.std.specs.Prelude.{◌≡◌, OnOk, List, IfOk};
 ghost use Rattle.ir_lex.specs.Cut.{cut_of, cuts_of};
+ghost use Rattle.ir_read.specs.Ahead.{ends as is_ended};
 ghost use Rattle.ir_read.specs.Spelling.{Passes};
 ghost use Rattle.ir_read.specs.View.{AreCounted, state_of, view_reading, HasLine};
 ghost use Rattle.ir_read.specs.State.{is_inside};
@@ -9,6 +10,7 @@ ghost use Rattle.ir_read.specs.Reads.{Reads};
 ghost use Rattle.ir_lex.specs.Lexeme.{lexemes};
 ghost use Rattle.ir_read.specs.Answers.{Comes, IsNew};
 
+use crate::ahead::ends;
 use crate::apply::apply;
 use crate::body::Body;
 use crate::reading::{Reading, read_inside, read_outside};
@@ -40,10 +42,10 @@ pub fn pass(
 ) -> Result<Option<Body>, Stop>
     requires counted { AreCounted whole.old }
     requires new { IsNew (state_of whole.old body) }
-    ensures value { Comes result whole.new (Passes item.now.closed (state_of whole.old body) (cut_of item.now) (cuts_of after.now)) }
+    ensures value { Comes result whole.new (Passes (is_ended (cut_of item.now) (cuts_of after.now)) (state_of whole.old body) (cut_of item.now) (cuts_of after.now)) }
     ensures counted { OnOk result (AreCounted whole.new) }
 {
-    if !item.closed {
+    if !ends(alloc, item, after)? {
         return Err(Stop::Refused(KernelReason::K2));
     }
     let reading = read_at(alloc, body.is_some(), item)?;

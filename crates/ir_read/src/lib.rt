@@ -19,6 +19,3 @@ mod text;
 mod whole;
 
 pub use text::read_module;
-
-#[cfg(test)]
-mod tests;

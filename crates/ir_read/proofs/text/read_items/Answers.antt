@@ -35,7 +35,7 @@ returns-in-Err-clause-fault c =
     let s = state_of c.loop-at.whole c.loop-at.body in
     let item = cut_of (get_or all at nothing) in
     let stops = on_stop c.in-Err.stop c.pass.new.whole s item (cuts_of (drop at all)) (cuts_of (drop (at + 1) all)) (cuts_of all) (cuts_step all at nothing c.loop-at-test.true)
-    (subst (λ items. Comes (Err c.in-Err.stop) c.pass.new.whole (Passes item.closed s item (cuts_of items))) c.split_at.ensures.back c.in-Err.ensures.value) c.loop-at.invariant.so_far in
+    (subst (λ items. Comes (Err c.in-Err.stop) c.pass.new.whole (Passes (ends item (cuts_of items)) s item (cuts_of items))) c.split_at.ensures.back c.in-Err.ensures.value) c.loop-at.invariant.so_far in
     subst (λ stop. IsItemStop (cuts_of all) stop) (sym c.stop_at.ensures) stops
 
 pub returns-clause-found : goal.returns-clause-found
