@@ -15,6 +15,3 @@ mod trail;
 pub use propagate::{FullScan, Propagate};
 pub use solver::{SolveEnd, solve};
 pub use trail::Trail;
-
-#[cfg(test)]
-mod tests;

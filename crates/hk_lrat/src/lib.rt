@@ -17,6 +17,3 @@ pub use checker::Checker;
 pub use log::{IdList, LitList, LratLog, LratRow, RefuteStop, RowReason};
 pub use log_read::read_log;
 pub use refutation::refutes;
-
-#[cfg(test)]
-mod tests;

@@ -19,6 +19,3 @@ mod words;
 
 pub use fault::ItemFault;
 pub use item::{BodyItem, read_body_item};
-
-#[cfg(test)]
-mod tests;

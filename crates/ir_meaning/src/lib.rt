@@ -14,6 +14,3 @@ mod stop;
 
 pub use interpreter::{initial_memory_of, run_in_place};
 pub use kernel::Kernel;
-
-#[cfg(test)]
-mod tests;

@@ -25,6 +25,3 @@ pub use operand::{inbounds_only, is_bit, operand_at, typed_at};
 pub use same::same_type;
 pub use stop::PartStop;
 pub use types::{result_at, type_at};
-
-#[cfg(test)]
-mod tests;

@@ -15,6 +15,3 @@ mod tops;
 pub use item::TopItem;
 pub use range::read_range;
 pub use tops::read_top;
-
-#[cfg(test)]
-mod tests;
