@@ -1,0 +1,4 @@
+@ticks = global i8 0
+define void @tick() {
+  %v = load i8, ptr @ticks
+  %n = add i8 %v, 1
