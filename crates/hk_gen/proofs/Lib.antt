@@ -1,0 +1,2 @@
+mod Handlers
+mod Pieces
