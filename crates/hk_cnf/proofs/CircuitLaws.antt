@@ -51,7 +51,7 @@ IsGrown-trans a b c g h = record {
 newest : (c : Circuit) (op : Operation) → reverse (with_gate c op).gates ≡ (op, record { output = c.vars; clause = length c.clauses }) ∷ reverse c.gates
 newest c op = reverse-append c.gates ((op, record { output = c.vars; clause = length c.clauses }) ∷ [])
 
-front-append : {A : Type 0} (xs ys : List A) → take (length xs) (xs ++ ys) ≡ xs
+pub front-append : {A : Type 0} (xs ys : List A) → take (length xs) (xs ++ ys) ≡ xs
 front-append xs ys = take-append-le (length xs) xs ys (omega arith) ∙ take_all (length xs) xs (omega arith)
 
 pub IsWithin-weaker : (n m : ℕ) (l : ℤ) → n ≤ m → IsWithin n l → IsWithin m l
@@ -204,7 +204,7 @@ operation_clauses-within n o (And a b) h k =
     (All-cons W (neg_ℤ o ∷ b ∷ []) ((o ∷ neg_ℤ a ∷ neg_ℤ b ∷ []) ∷ []) (pair-within n (neg_ℤ o) b (IsWithin-neg n o h) k.1)
     (All-cons W (o ∷ neg_ℤ a ∷ neg_ℤ b ∷ []) [] (All-cons (IsWithin n) o (neg_ℤ a ∷ neg_ℤ b ∷ []) h (pair-within n (neg_ℤ a) (neg_ℤ b) (IsWithin-neg n a k.0) (IsWithin-neg n b k.1))) (All-nil W)))
 
-AreOperands-weaker : (n m : ℕ) (op : Operation) → n ≤ m → AreOperands n op → AreOperands m op
+pub AreOperands-weaker : (n m : ℕ) (op : Operation) → n ≤ m → AreOperands n op → AreOperands m op
 AreOperands-weaker n m True h o = tt
 AreOperands-weaker n m (And a b) h o = (IsWithin-weaker n m a h o.0, IsWithin-weaker n m b h o.1)
 

@@ -9,6 +9,7 @@ use Rattle.std.specs.List.{All, AllPairs, list_all}
 use Rattle.hk_cnf.specs.Circuit.{Gate, Circuit, operation_true, run, gate_clauses, all_gate_clauses, clauses_end, AreOperands}
 use Rattle.hk_cnf.specs.CircuitParts.{InOrder, HasClauses, IsCircuit}
 use Rattle.hk_cnf.specs.CircuitGrowth.{clause_true, values_of}
+use Rattle.hk_cnf.specs.Required.{required_from, required_of}
 use Rattle.hk_cnf.specs.Determined.{is_output, Completes, IsDetermined, Mixes, IsMixed}
 use Rattle.hk_cnf.specs.Determined.Mixes.{none, left, right}
 use Rattle.hk_cnf.proofs.Running.{operation_true-same, with_value-other, run-later, Each, Each-All, Each-reverse, Each-forward, Hold, Hold-same, Hold-run, run-Hold}
@@ -16,7 +17,7 @@ use Rattle.hk_cnf.proofs.CircuitLaws.{operation_clauses-say, agree-is, agree-ref
 use Rattle.hk_cnf.proofs.CircuitValues.{clauses_value-true, listed, listed-at}
 
 -- the operands of each gate are earlier variables
-operands-in_order : (gs : List Gate) (n : ℕ) → InOrder n gs → Each (λ g. AreOperands g.1.output g.0) gs
+pub operands-in_order : (gs : List Gate) (n : ℕ) → InOrder n gs → Each (λ g. AreOperands g.1.output g.0) gs
 operands-in_order [] n o = tt
 operands-in_order (g ∷ gs) n o = (o.1, operands-in_order gs g.1.output o.2)
 
@@ -28,7 +29,7 @@ clauses-Hold w (g ∷ gs) o h =
     (operation_clauses-say w g.1.output g.1.output g.0 o.0 ∙ agree-refl (w g.1.output) (operation_true w g.0) h.0)
     (clauses-Hold w gs o.1 h.1)
 
-Hold-clauses : (w : ℕ → Bool) (gs : List Gate) → Each (λ g. AreOperands g.1.output g.0) gs → list_all (clause_true w) (all_gate_clauses gs) ≡ true → Hold w gs
+pub Hold-clauses : (w : ℕ → Bool) (gs : List Gate) → Each (λ g. AreOperands g.1.output g.0) gs → list_all (clause_true w) (all_gate_clauses gs) ≡ true → Hold w gs
 Hold-clauses w [] o h = tt
 Hold-clauses w (g ∷ gs) o h =
     let p : (list_all (clause_true w) (gate_clauses g) ≡ true) × (list_all (clause_true w) (all_gate_clauses gs) ≡ true) =
@@ -141,24 +142,25 @@ rising (g ∷ gs) k h a = (
   rising gs (clauses_end g) (λ i j d l b. h (suc i) (suc j) d (omega arith) (omega arith)) (λ j d b. h 0 (suc j) d (omega arith) (omega arith)),
 )
 
-mixed : (cs : List (List ℤ)) (gs : List Gate) (k : ℕ) → Rising k gs → Each (HasClauses cs) gs → (required : List (List ℤ)) × Mixes (all_gate_clauses gs) required (drop k cs)
+mixed : (cs : List (List ℤ)) (gs : List Gate) (k : ℕ) → Rising k gs → Each (HasClauses cs) gs → Mixes (all_gate_clauses gs) (required_from k cs gs) (drop k cs)
 unfolding Rising
-mixed cs [] k r h = (drop k cs, all_right (drop k cs))
+mixed cs [] k r h = all_right (drop k cs)
 mixed cs (g ∷ gs) k r h =
     let c : ℕ = g.1.clause in let m : ℕ = length (gate_clauses g) in
-    let rest : (required : List (List ℤ)) × Mixes (all_gate_clauses gs) required (drop (c + m) cs) = mixed cs gs (c + m) r.1 h.1 in
+    let rest : Mixes (all_gate_clauses gs) (required_from (c + m) cs gs) (drop (c + m) cs) = mixed cs gs (c + m) r.1 h.1 in
     let own : gate_clauses g ++ drop (c + m) cs ≡ drop c cs =
     (λ i. sym h.0.there i ++ sym (drop-drop m c cs) i) ∙ take-append-drop m (drop c cs) in
     let gap : take (c - k) (drop k cs) ++ drop c cs ≡ drop k cs =
     (λ i. take (c - k) (drop k cs) ++ (ap (λ n. drop n cs) (later r.0) ∙ sym (drop-drop (c - k) k cs)) i) ∙ take-append-drop (c - k) (drop k cs) in
     let joined : take (c - k) (drop k cs) ++ (gate_clauses g ++ drop (c + m) cs) ≡ drop k cs = ap (λ x. take (c - k) (drop k cs) ++ x) own ∙ gap in
-    (take (c - k) (drop k cs) ++ rest.0, subst (Mixes (gate_clauses g ++ all_gate_clauses gs) (take (c - k) (drop k cs) ++ rest.0)) joined (rights (take (c - k) (drop k cs)) (lefts (gate_clauses g) rest.1)))
+    subst (Mixes (gate_clauses g ++ all_gate_clauses gs) (take (c - k) (drop k cs) ++ required_from (c + m) cs gs)) joined (rights (take (c - k) (drop k cs)) (lefts (gate_clauses g) rest))
   where
     later : k ≤ g.1.clause → g.1.clause ≡ k + (g.1.clause - k)
     later l = omega arith
 
+pub Mixes-required : (c : Circuit) → IsCircuit c → Mixes (all_gate_clauses c.gates) (required_of c) c.clauses
+unfolding required_of
+Mixes-required c h = mixed c.clauses c.gates 0 (rising c.gates 0 h.apart (λ i d b. omega arith)) (Each-All (HasClauses c.clauses) c.gates h.placed)
+
 pub IsMixed-circuit : (c : Circuit) → IsCircuit c → IsMixed c
-IsMixed-circuit c h =
-    let m : (required : List (List ℤ)) × Mixes (all_gate_clauses c.gates) required (drop 0 c.clauses) =
-    mixed c.clauses c.gates 0 (rising c.gates 0 h.apart (λ i d b. omega arith)) (Each-All (HasClauses c.clauses) c.gates h.placed) in
-    record { required = m.0; mixes = m.1 }
+IsMixed-circuit c h = record { required = required_of c; mixes = Mixes-required c h }

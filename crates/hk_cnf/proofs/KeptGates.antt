@@ -11,7 +11,7 @@ use Rattle.hk_cnf.specs.CircuitParts.{InOrder, HasClauses, IsCircuit, IsGateWith
 use Rattle.hk_cnf.proofs.Running.{lit_true-same, with_value-other, Each, Each-All, Each-reverse, Each-forward, Each-below}
 use Rattle.hk_cnf.proofs.CircuitLaws.{AreWithin-weaker, IsCircuit-with_gate}
 
-All-Each : (P : Gate → Type 0) (gs : List Gate) → Each P gs → All P gs
+pub All-Each : (P : Gate → Type 0) (gs : List Gate) → Each P gs → All P gs
 All-Each P [] h = All-nil P
 All-Each P (g ∷ gs) h = All-cons P g gs h.0 (All-Each P gs h.1)
 
@@ -39,7 +39,7 @@ IsCircuit-fresh c h few = record {
 }
 
 -- the earlier gates alone
-InOrder-rest : (fs gs : List Gate) (n : ℕ) → InOrder n (fs ++ gs) → InOrder n gs
+pub InOrder-rest : (fs gs : List Gate) (n : ℕ) → InOrder n (fs ++ gs) → InOrder n gs
 InOrder-rest [] gs n o = o
 InOrder-rest (f ∷ fs) gs n o = InOrder-weaker gs f.1.output n (InOrder-rest fs gs f.1.output o.2) (omega (arith, o.0))
 
@@ -48,7 +48,7 @@ InOrder-tight [] n m o h = tt
 InOrder-tight (g ∷ gs) n m o h = (h.0, o.1, o.2)
 
 -- the newest gates in front of those that are kept
-parts : (gs : List Gate) (n : ℕ) → reverse gs ≡ reverse (drop n gs) ++ reverse (take n gs)
+pub parts : (gs : List Gate) (n : ℕ) → reverse gs ≡ reverse (drop n gs) ++ reverse (take n gs)
 parts gs n = ap reverse (sym (take-append-drop n gs)) ∙ reverse-append (take n gs) (drop n gs)
 
 HasClauses-take : (cs : List (List ℤ)) (n : ℕ) (g : Gate) → HasClauses cs g → clauses_end g ≤ n → HasClauses (take n cs) g

@@ -2,12 +2,16 @@ pub mod CircuitLaws
 pub mod CircuitMade
 pub mod CircuitValues
 pub mod Determination
-pub mod Keys
+pub mod FrontLaws
 pub mod KeptGates
+pub mod Keys
 pub mod Members
 pub mod Outcomes
+pub mod OwnClauses
 pub mod Parts
+pub mod RequiredLaws
 pub mod Running
 pub mod Splits
 pub mod Tells
+pub mod Unfixed
 pub mod Written

@@ -6,12 +6,16 @@ use Rattle.std.specs.declared.alloc.AllocError.{AllocError}
 use Rattle.hk_cnf.specs.Literal.{IsWithin, value_at, place_of}
 use Rattle.hk_cnf.specs.Clauses.{clauses_value}
 use Rattle.hk_cnf.specs.declared.operation.Operation.TheVariants.{True}
-use Rattle.hk_cnf.specs.Circuit.{Circuit, Made, made, run, gate_value, variable}
+use Rattle.hk_cnf.specs.Circuit.{Circuit, Made, made, run, gate_value, variable, all_gate_clauses}
 use Rattle.hk_cnf.specs.CircuitParts.{IsCircuit}
 use Rattle.hk_cnf.specs.CircuitGrowth.{inputs_of, IsGrown, values_of, Extends}
 use Rattle.hk_cnf.proofs.Running.{lit_true-variable, place_of-variable, run-later}
 use Rattle.hk_cnf.proofs.CircuitLaws.{IsGrown-refl, IsGrown-fresh, IsWithin-variable, clauses_true-same}
 use Rattle.hk_cnf.proofs.CircuitMade.{Lawful, Lawful-made, both}
+use Rattle.hk_cnf.specs.Required.{required_of}
+use Rattle.hk_cnf.proofs.OwnClauses.{gate_value-own}
+use Rattle.hk_cnf.proofs.FrontLaws.{IsFront-grown}
+use Rattle.hk_cnf.proofs.RequiredLaws.{required-fresh, required-kept}
 use Rattle.hk_cnf.proofs.CircuitValues.{clauses_value-true, gate_value-satisfied, listed, listed-satisfies, holds-satisfied}
 
 -- an assignment that satisfied a circuit extends to one that satisfies it once it is grown
@@ -58,6 +62,10 @@ module _ (old new : Circuit) where
   grown-fresh (Ok l) e k = subst (IsGrown old) (sym e) (IsGrown-fresh old)
   grown-fresh (Err x) e k = subst (IsGrown old) (sym k) (IsGrown-refl old)
 
+  pub beside-fresh : (r : Result ℤ AllocError) → OnOk r (new ≡ record old { vars = old.vars + 1 }) → OnErr r (new ≡ old) → required_of new ≡ required_of old
+  beside-fresh (Ok l) e k = ap required_of e ∙ required-fresh old
+  beside-fresh (Err x) e k = ap required_of k
+
   pub within-fresh : (r : Result ℤ AllocError) → IsCircuit new → OnOk r (new ≡ record old { vars = old.vars + 1 }) → IfOk r (λ l. l ≡ variable old.vars) → IfOk r (λ l. IsWithin new.vars l)
   within-fresh (Ok l) h e k =
       let n : new.vars ≡ old.vars + 1 = ap (λ c. c.vars) e in
@@ -87,6 +95,9 @@ module _ (old new : Circuit) (m : Made) (f : (ℕ → Bool) → Bool) (law : Law
   inputs (Ok l) e k = ap inputs_of e ∙ law.inputs
   inputs (Err x) e k = ap inputs_of k
 
+  pub beside : (r : Result ℤ AllocError) → OnOk r (new ≡ m.circuit) → OnErr r (new ≡ old) → required_of new ≡ required_of old
+  beside r e k = required-kept old new before after (IsFront-grown old new (grown r e k)) (ap (λ i. i.required) (inputs r e k))
+
   pub within : (r : Result ℤ AllocError) → OnOk r (new ≡ m.circuit) → IfOk r (λ l. l ≡ m.literal) → IfOk r (λ l. IsWithin new.vars l)
   within (Ok l) e k = subst (λ x. IsWithin new.vars x) (sym k) (subst (λ c. IsWithin c.vars m.literal) (sym e) (law.within (subst IsCircuit e after)))
   within (Err x) e k = tt
@@ -96,14 +107,14 @@ module _ (old new : Circuit) (m : Made) (f : (ℕ → Bool) → Bool) (law : Law
   value (Err x) e k = tt
 
 pub conjunction : (old new : Circuit) (a b l : ℤ) → IsCircuit new → IsWithin old.vars a → IsWithin old.vars b → IsGrown old new → ((v : ℕ → Bool) → gate_value new l v ≡ both old a b v)
-    → (u : List Bool) → clauses_value u new.clauses ≡ true → value_at u l ≡ (value_at u a && value_at u b)
+    → (u : List Bool) → clauses_value u (all_gate_clauses new.gates) ≡ true → value_at u l ≡ (value_at u a && value_at u b)
 conjunction old new a b l h ha hb g value u s =
     let v : ℕ → Bool = values_of u in
-    let x : gate_value old a v ≡ value_at u a = sym (g.values a ha.below v) ∙ gate_value-satisfied new u h s a in
-    let y : gate_value old b v ≡ value_at u b = sym (g.values b hb.below v) ∙ gate_value-satisfied new u h s b in
-    sym (gate_value-satisfied new u h s l) ∙ (value v ∙ (λ i. x i && y i))
+    let x : gate_value old a v ≡ value_at u a = sym (g.values a ha.below v) ∙ gate_value-own new u h s a in
+    let y : gate_value old b v ≡ value_at u b = sym (g.values b hb.below v) ∙ gate_value-own new u h s b in
+    sym (gate_value-own new u h s l) ∙ (value v ∙ (λ i. x i && y i))
 
 pub conjunction-if : (old new : Circuit) (a b : ℤ) (r : Result ℤ AllocError) → IsCircuit new → IsWithin old.vars a → IsWithin old.vars b → IsGrown old new → IfOk r (λ l. (v : ℕ → Bool) → gate_value new l v ≡ both old a b v)
-    → IfOk r (λ l. (u : List Bool) → clauses_value u new.clauses ≡ true → value_at u l ≡ (value_at u a && value_at u b))
+    → IfOk r (λ l. (u : List Bool) → clauses_value u (all_gate_clauses new.gates) ≡ true → value_at u l ≡ (value_at u a && value_at u b))
 conjunction-if old new a b (Ok l) h ha hb g e = conjunction old new a b l h ha hb g e
 conjunction-if old new a b (Err x) h ha hb g e = tt

@@ -9,6 +9,10 @@ use Rattle.hk_cnf.specs.Circuit.{Circuit, lit_true, run, gate_value, all_gate_cl
 abbrev pub clause_true : (ℕ → Bool) → List ℤ → Bool
 clause_true v c = list_any (lit_true v) c
 
+-- a literal of the clause is true, where the variables that no gate fixes have these values
+abbrev pub clause_holds : Circuit → List ℤ → (ℕ → Bool) → Bool
+clause_holds c ls v = list_any (λ l. gate_value c l v) ls
+
 -- each clause is true, where the variables that no gate fixes have these values
 unfoldable pub holds : Circuit → (ℕ → Bool) → Bool
 holds c v = list_all (clause_true (run (reverse c.gates) v)) c.clauses

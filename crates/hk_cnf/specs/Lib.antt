@@ -5,11 +5,13 @@ pub mod Clauses
 pub mod Determined
 pub mod Dimacs
 pub mod DimacsText
+pub mod Front
 pub mod GatesView
 pub mod Hint
 pub mod Layout
 pub mod Literal
 pub mod Partial
 pub mod PartialView
+pub mod Required
 pub mod Spread
 pub mod Text

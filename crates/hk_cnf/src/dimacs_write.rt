@@ -53,22 +53,16 @@ fn header(alloc: Global, vars: u64, clauses: u64) -> Result<Vec<u8>, AllocError>
     Ok(text)
 }
 
-/// The text of the list.
-fn text_of(alloc: Global, list: &ClauseList) -> Result<Vec<u8>, AllocError>
-    ensures { IfOk result (λ text. text.items ≡ list_text list.now) }
+/// The list as a text in DIMACS CNF: a header, and a line for each clause. It is read back as the same list.
+pub fn write_dimacs(alloc: Global, list: &ClauseList) -> Result<Vec<u8>, AllocError>
+    ensures text { IfOk result (λ text. text.items ≡ list_text list.now) }
+    ensures read { IfOk result (λ text. dimacs_of text.items ≡ Ok list.now) }
 {
-    let mut text = header(alloc, list.vars(), list.len() as u64)?;
-    for i in 0..list.len() {
+    let vars = list.vars();
+    let clauses = list.len();
+    let mut text = header(alloc, vars, clauses as u64)?;
+    for i in 0..clauses {
         put_clause(&mut text, list.clause(i))?;
     }
     Ok(text)
-}
-
-/// The list as a text in DIMACS CNF: a header, and a line for each clause. It is read back as the same list.
-pub fn write_dimacs(alloc: Global, list: &ClauseList) -> Result<Vec<u8>, AllocError>
-    ensures { IfOk result (λ text. dimacs_of text.items ≡ Ok list.now) }
-{
-    let _vars = list.vars();
-    let _clauses = list.len();
-    text_of(alloc, list)
 }

@@ -2,9 +2,11 @@
 
 ghost use Rattle.std.specs.Prelude.{◌≡◌, IfSome};
 ghost use Rattle.hk_cnf.specs.Literal.{IsWithin};
+ghost use Rattle.hk_cnf.specs.Circuit.{Circuit};
+ghost use Rattle.hk_cnf.specs.Front.{IsFront};
 
 use crate::{GateSizes, Gates, Lit, write_dimacs};
-use std::alloc::Global;
+use std::alloc::{AllocError, Global};
 use std::test::Fail;
 
 /// The literal with this number, where it is one of the first variables or its negation.
@@ -103,6 +105,47 @@ fn required_clauses_stand_beside_those_of_gates(rt: HostRuntime) -> Result<(), F
         "p cnf 2 2\n2 0\n-1 2 0\n"
     );
     assert_eq!(rt; gates.into_clauses().len(), 2);
+    Ok(())
+}
+
+/// Adds a conjunction and requires it.
+fn add_required(gates: &mut Gates, a: Lit, b: Lit) -> Result<(), AllocError>
+    requires first { IsWithin gates.old.vars a }
+    requires second { IsWithin gates.old.vars b }
+    ensures front { (c : Circuit) → IsFront c gates.old → IsFront c gates.new }
+{
+    let both = gates.and(a, b)?;
+    gates.require(&[both])?;
+    Ok(())
+}
+
+/// Adds a conjunction and requires it, and takes all of it back.
+fn add_and_take_back(gates: &mut Gates, a: Lit, b: Lit) -> Result<(), AllocError>
+    requires first { IsWithin gates.old.vars a }
+    requires second { IsWithin gates.old.vars b }
+    ensures { gates.new ≡ gates.old }
+{
+    let sizes = gates.sizes();
+    let done = add_required(gates, a, b);
+    // for its clause `circuit`
+    gates.sizes();
+    gates.cut(sizes);
+    done
+}
+
+#[test]
+fn what_was_added_and_required_is_taken_back(rt: HostRuntime) -> Result<(), Fail> {
+    let mut gates = Gates::new(rt.alloc());
+    let a = gates.fresh()?;
+    let b = gates.fresh()?;
+    gates.require(&[a, b])?;
+    add_and_take_back(&mut gates, a, b)?;
+    assert_eq!(rt; text(rt.alloc(), &gates)?.as_str(), "p cnf 2 1\n1 2 0\n");
+    add_required(&mut gates, a, b)?;
+    assert_eq!(rt;
+        text(rt.alloc(), &gates)?.as_str(),
+        "p cnf 3 5\n1 2 0\n-3 1 0\n-3 2 0\n3 -1 -2 0\n3 0\n"
+    );
     Ok(())
 }
 

@@ -2,11 +2,13 @@
 
 ghost use Rattle.std.specs.Prelude.{◌≡◌, ◌+◌, ◌<◌, ◌≤◌, ◌^◌, ◌++◌, ◌∷◌, [], ◌&&◌, true, ℕ, Bool, ℤ, List, length, take, drop, All, OnOk, OnErr, IfOk};
 ghost use Rattle.hk_cnf.specs.Literal.{IsWithin, place_of, value_at};
-ghost use Rattle.hk_cnf.specs.Clauses.{AreWithin, clauses_value};
-ghost use Rattle.hk_cnf.specs.Circuit.{Circuit, AreOperands, variable, made, conjoined, gate_value, clauses_end, truth_with};
+ghost use Rattle.hk_cnf.specs.Clauses.{AreWithin, clause_value, clauses_value};
+ghost use Rattle.hk_cnf.specs.Circuit.{Circuit, AreOperands, variable, made, conjoined, gate_value, clauses_end, all_gate_clauses, truth_with};
 ghost use Rattle.hk_cnf.specs.CircuitParts.{IsCircuit, IsGateWithin};
-ghost use Rattle.hk_cnf.specs.CircuitGrowth.{IsGrown, inputs_of, values_of, Extends};
-ghost use Rattle.hk_cnf.specs.Determined.{IsDetermined, IsMixed};
+ghost use Rattle.hk_cnf.specs.CircuitGrowth.{clause_holds, holds, IsGrown, inputs_of, values_of, Extends};
+ghost use Rattle.hk_cnf.specs.Determined.{IsDetermined, IsMixed, Mixes};
+ghost use Rattle.hk_cnf.specs.Front.{IsFront};
+ghost use Rattle.hk_cnf.specs.Required.{required_of};
 
 use crate::clauses::ClauseList;
 use crate::direct::Direct;
@@ -115,6 +117,7 @@ impl Gates {
         ensures vars { self.old.vars ≤ self.new.vars }
         ensures keeps { (l : ℤ) → place_of l < self.old.vars → (v : ℕ → Bool) → gate_value self.new l v ≡ gate_value self.old l v }
         ensures grows { (c : Circuit) → IsGrown c self.old → IsGrown c self.new }
+        ensures beside { required_of self.new ≡ required_of self.old }
         ensures within { IfOk result (λ l. IsWithin self.new.vars l) }
         ensures value { IfOk result (λ l. (v : ℕ → Bool) → gate_value self.new l v ≡ v self.old.vars) }
         ensures extends { OnOk result ((u : List Bool) → length u ≡ self.old.vars → clauses_value u self.old.clauses ≡ true → (b : Bool) → Extends self.new u (b ∷ [])) }
@@ -147,6 +150,7 @@ impl Gates {
         ensures keeps { (l : ℤ) → place_of l < self.old.vars → (v : ℕ → Bool) → gate_value self.new l v ≡ gate_value self.old l v }
         ensures grows { (c : Circuit) → IsGrown c self.old → IsGrown c self.new }
         ensures inputs { inputs_of self.new ≡ inputs_of self.old }
+        ensures beside { required_of self.new ≡ required_of self.old }
         ensures within { IfOk result (λ l. IsWithin self.new.vars l) }
         ensures value { IfOk result (λ l. (v : ℕ → Bool) → gate_value self.new l v ≡ true) }
         ensures extends { (a : List Bool) → length a ≡ self.old.vars → clauses_value a self.old.clauses ≡ true → (more : List Bool) × Extends self.new a more }
@@ -166,21 +170,40 @@ impl Gates {
         ensures keeps { (l : ℤ) → place_of l < self.old.vars → (v : ℕ → Bool) → gate_value self.new l v ≡ gate_value self.old l v }
         ensures grows { (c : Circuit) → IsGrown c self.old → IsGrown c self.new }
         ensures inputs { inputs_of self.new ≡ inputs_of self.old }
+        ensures beside { required_of self.new ≡ required_of self.old }
         ensures within { IfOk result (λ l. IsWithin self.new.vars l) }
         ensures value { IfOk result (λ l. (v : ℕ → Bool) → gate_value self.new l v ≡ (gate_value self.old a v && gate_value self.old b v)) }
-        ensures conjunction { IfOk result (λ l. (u : List Bool) → clauses_value u self.new.clauses ≡ true → value_at u l ≡ (value_at u a && value_at u b)) }
+        ensures conjunction { IfOk result (λ l. (u : List Bool) → clauses_value u (all_gate_clauses self.new.gates) ≡ true → value_at u l ≡ (value_at u a && value_at u b)) }
         ensures extends { (u : List Bool) → length u ≡ self.old.vars → clauses_value u self.old.clauses ≡ true → (more : List Bool) × Extends self.new u more }
     {
         self.conjoin(a, b)
     }
 
-    /// Adds a clause that is no gate's. Without memory all is as before.
+    /// A clause at the end.
+    fn add_clause(&mut self, lits: &[Lit]) -> Result<(), AllocError>
+        requires { All (IsWithin self.old.vars) lits.now }
+        ensures ok { OnOk result (self.new ≡ record self.old { clauses = self.old.clauses ++ lits.now ∷ [] }) }
+        ensures err { OnErr result (self.new ≡ self.old) }
+        ensures before { IsCircuit self.old }
+    {
+        self.list.push(lits)
+    }
+
+    /// Adds a clause that is no gate's. Variables and gates are as before. Without memory all is as before.
     pub fn require(&mut self, lits: &[Lit]) -> Result<(), AllocError>
         requires { All (IsWithin self.old.vars) lits.now }
         ensures ok { OnOk result (self.new ≡ record self.old { clauses = self.old.clauses ++ lits.now ∷ [] }) }
         ensures err { OnErr result (self.new ≡ self.old) }
+        ensures vars { self.new.vars ≡ self.old.vars }
+        ensures gates { self.new.gates ≡ self.old.gates }
+        ensures keeps { (l : ℤ) (v : ℕ → Bool) → gate_value self.new l v ≡ gate_value self.old l v }
+        ensures front { (c : Circuit) → IsFront c self.old → IsFront c self.new }
+        ensures inputs { OnOk result (inputs_of self.new ≡ record (inputs_of self.old) { required = (inputs_of self.old).required + 1 }) }
+        ensures beside { OnOk result (required_of self.new ≡ required_of self.old ++ lits.now ∷ []) }
+        ensures holds { OnOk result ((v : ℕ → Bool) → holds self.new v ≡ (holds self.old v && clause_holds self.old lits.now v)) }
+        ensures satisfied { OnOk result ((u : List Bool) → clauses_value u self.new.clauses ≡ (clauses_value u self.old.clauses && clause_value u lits.now)) }
     {
-        self.list.push(lits)
+        self.add_clause(lits)
     }
 
     /// How many variables, clauses and gates there are.
@@ -198,7 +221,8 @@ impl Gates {
     }
 
     /// Keeps the first variables, clauses and gates. What is kept speaks of what is kept, and each kept variable is
-    /// fixed by a kept gate or by none.
+    /// fixed by a kept gate or by none. So it is where these are the sizes of what stood here before more was added, and
+    /// then all is as it was (`laws::a_circuit_can_be_cut_to_its_front`).
     pub fn cut(&mut self, to: GateSizes)
         requires vars { to.vars ≤ self.old.vars }
         requires clauses { to.clauses ≤ length self.old.clauses }
@@ -209,6 +233,7 @@ impl Gates {
         requires fresh_or_kept { All (λ g. to.vars ≤ g.1.output) (drop to.gates self.old.gates) }
         ensures prefixes { self.new ≡ record { vars = to.vars; clauses = take to.clauses self.old.clauses; gates = take to.gates self.old.gates } }
         ensures keeps { (l : ℤ) → place_of l < to.vars → (v : ℕ → Bool) → gate_value self.new l v ≡ gate_value self.old l v }
+        ensures back { (c : Circuit) → IsFront c self.old → to.vars ≡ c.vars → to.clauses ≡ length c.clauses → to.gates ≡ length c.gates → self.new ≡ c }
     {
         self.list.cut(to.vars, to.clauses as usize);
         self.gates.truncate(to.gates as usize);
@@ -218,9 +243,12 @@ impl Gates {
     /// The clauses, those of the gates and those that were required.
     pub fn clauses(&self) -> &ClauseList
         ensures same { result.now ≡ record { vars = self.now.vars; clauses = self.now.clauses } }
-        ensures exact { (a : List Bool) → clauses_value a self.now.clauses ≡ true → (l : ℤ) → gate_value self.now l (values_of a) ≡ value_at a l }
+        ensures exact { (a : List Bool) → clauses_value a (all_gate_clauses self.now.gates) ≡ true → (l : ℤ) → gate_value self.now l (values_of a) ≡ value_at a l }
         ensures determined { IsDetermined self.now }
         ensures mixed { IsMixed self.now }
+        ensures required { Mixes (all_gate_clauses self.now.gates) (required_of self.now) self.now.clauses }
+        ensures count { length (required_of self.now) ≡ (inputs_of self.now).required }
+        ensures satisfied { (a : List Bool) → clauses_value a self.now.clauses ≡ (clauses_value a (all_gate_clauses self.now.gates) && clauses_value a (required_of self.now)) }
     {
         &self.list
     }
@@ -228,9 +256,12 @@ impl Gates {
     /// The clauses, with no copy.
     pub fn into_clauses(self) -> ClauseList
         ensures same { result ≡ record { vars = self.vars; clauses = self.clauses } }
-        ensures exact { (a : List Bool) → clauses_value a self.clauses ≡ true → (l : ℤ) → gate_value self l (values_of a) ≡ value_at a l }
+        ensures exact { (a : List Bool) → clauses_value a (all_gate_clauses self.gates) ≡ true → (l : ℤ) → gate_value self l (values_of a) ≡ value_at a l }
         ensures determined { IsDetermined self }
         ensures mixed { IsMixed self }
+        ensures required { Mixes (all_gate_clauses self.gates) (required_of self) self.clauses }
+        ensures count { length (required_of self) ≡ (inputs_of self).required }
+        ensures satisfied { (a : List Bool) → clauses_value a self.clauses ≡ (clauses_value a (all_gate_clauses self.gates) && clauses_value a (required_of self)) }
     {
         let Gates { list, .. } = self;
         list

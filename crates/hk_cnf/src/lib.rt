@@ -12,6 +12,7 @@ mod direct;
 mod gate_clauses;
 mod gates;
 mod hint;
+pub mod laws;
 mod literal;
 mod operation;
 mod simple_and;

@@ -2,7 +2,7 @@ use Rattle.std.proofs.Common.{true}
 use Rattle.hk_cnf.specs.declared.operation.Operation.TheVariants.{True}
 use Rattle.hk_cnf.specs.Circuit.{made}
 use Rattle.hk_cnf.proofs.CircuitLaws.{IsGrown-trans}
-use Rattle.hk_cnf.proofs.Outcomes.{constant-law, grown, inputs, within, value, Extends-grown}
+use Rattle.hk_cnf.proofs.Outcomes.{constant-law, grown, inputs, beside, within, value, Extends-grown}
 use Rattle.hk_cnf.proofs.gates.Gates.constant.Goals as goal
 
 pub returns-clause-vars : goal.returns-clause-vars
@@ -25,3 +25,6 @@ returns-clause-value c = value c.args.self.now c.make.new.self (made c.args.self
 
 pub returns-clause-extends : goal.returns-clause-extends
 returns-clause-extends c = Extends-grown c.args.self.now c.make.new.self c.make.ensures.before c.make.ensures.after (grown c.args.self.now c.make.new.self (made c.args.self.now True) (λ _. true) (constant-law c.args.self.now c.make.ensures.before) c.make.ensures.before c.make.ensures.after c.make.result c.make.ensures.circuit c.make.ensures.err)
+
+pub returns-clause-beside : goal.returns-clause-beside
+returns-clause-beside c = beside c.args.self.now c.make.new.self (made c.args.self.now True) (λ _. true) (constant-law c.args.self.now c.make.ensures.before) c.make.ensures.before c.make.ensures.after c.make.result c.make.ensures.circuit c.make.ensures.err

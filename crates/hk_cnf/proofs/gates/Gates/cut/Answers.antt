@@ -30,3 +30,10 @@ returns-clause-keeps c = λ l b v.
     ∙ (values-fronts old c.args.to.vars c.args.to.clauses c.args.to.gates
     (subst (λ d. All (λ g. c.args.to.vars ≤ g.1.output) (drop c.args.to.gates d.gates)) (sym c.self.view_is) c.requires.fresh_or_kept) l b v
     ∙ ap (λ d. gate_value d l v) c.self.view_is)
+
+pub returns-clause-back : goal.returns-clause-back
+returns-clause-back c = λ d f v k n.
+    let old : Circuit = circuit_of c.self.inside in
+    let same : record { vars = c.cut.new.self.vars; clauses = c.cut.new.self.clauses; gates = c.truncate.new.self.entries } ≡ fronts old c.args.to.vars c.args.to.clauses c.args.to.gates =
+    λ i. record { vars = (ap (λ x. x.vars) c.cut.ensures) i; clauses = (ap (λ x. x.clauses) c.cut.ensures) i; gates = c.truncate.ensures.entries i } in
+    same ∙ (ap (λ x. fronts x c.args.to.vars c.args.to.clauses c.args.to.gates) c.self.view_is ∙ (λ i. record { vars = v i; clauses = (ap (λ j. take j c.args.self.now.clauses) k ∙ f.clauses) i; gates = (ap (λ j. take j c.args.self.now.gates) n ∙ f.gates) i }))

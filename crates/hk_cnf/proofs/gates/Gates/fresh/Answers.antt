@@ -1,5 +1,5 @@
 use Rattle.hk_cnf.proofs.CircuitLaws.{IsGrown-trans}
-use Rattle.hk_cnf.proofs.Outcomes.{grown-fresh, within-fresh, value-fresh, Extends-fresh}
+use Rattle.hk_cnf.proofs.Outcomes.{grown-fresh, beside-fresh, within-fresh, value-fresh, Extends-fresh}
 use Rattle.hk_cnf.proofs.gates.Gates.fresh.Goals as goal
 
 pub returns-clause-vars : goal.returns-clause-vars
@@ -22,3 +22,6 @@ returns-clause-value c =
 
 pub returns-clause-extends : goal.returns-clause-extends
 returns-clause-extends c = Extends-fresh c.args.self.now c.add_variable.new.self c.add_variable.result c.add_variable.ensures.before c.add_variable.ensures.circuit
+
+pub returns-clause-beside : goal.returns-clause-beside
+returns-clause-beside c = beside-fresh c.args.self.now c.add_variable.new.self c.add_variable.result c.add_variable.ensures.circuit c.add_variable.ensures.err
