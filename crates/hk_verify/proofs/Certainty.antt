@@ -1,6 +1,6 @@
 -- From what an answer means to the headline: the verdict at a handler's place is right for that handler.
 
-use Rattle.std.proofs.Common.{ℕ, zero, suc, ◌+◌, ◌<◌, ◌≤◌, ◌≡◌, ◌⊎◌, inl, inr, List, [], ◌∷◌, ◌++◌, Option, None, Some, IsSome, unwrap_or, length, slice_get, refl, ap, sym, ◌∙◌, subst, arith}
+use Rattle.std.proofs.Common.{ℕ, zero, suc, ◌≡◌, inl, inr, List, [], ◌∷◌, ◌++◌, Option, None, Some, unwrap_or, slice_get, refl, ap, sym, ◌∙◌, subst}
 use Rattle.std.specs.List.{AllZip}
 use Rattle.std.proofs.lemmas.List.{append_assoc, append-nil}
 use Rattle.hk_io.specs.Held.{Files, held_under}
@@ -8,9 +8,6 @@ use Rattle.ir_thin.specs.declared.tree.Kernel.{Kernel}
 use Rattle.spec_thin.specs.declared.tree.Spec.{Spec}
 use Rattle.spec_thin.specs.declared.tree.Transition.{Transition}
 use Rattle.spec_text.specs.Spelling.{IsSpecText}
-use Rattle.hk_replay.specs.declared.Obligation.{Obligation}
-use Rattle.hk_replay.specs.declared.Case.{Case}
-use Rattle.hk_replay.specs.Violation.{IsCorrect}
 use Rattle.hk_report.specs.declared.verdict.Verdict.{Verdict}
 use Rattle.hk_report.specs.declared.verdict.Verdict.TheVariants.{Accepted, Rejected}
 use Rattle.hk_decide.specs.Right.{IsRight}
@@ -20,9 +17,9 @@ use Rattle.hk_verify.specs.declared.answer.TopFault.TheVariants.{Usage, Read, Lo
 use Rattle.hk_verify.specs.Kernels.{IsKernelText}
 use Rattle.hk_verify.specs.Words.{IsVerify, HasNoForm}
 use Rattle.hk_verify.specs.Inputs.{Asked, ShelfView, IsLoaded, AreRead, asked, kernel_limit, spec_limit}
-use Rattle.hk_verify.specs.Verdicts.{AreRight, AreCut}
-use Rattle.hk_verify.specs.Answers.{SinkView, IsCut, IsInitCut, IsReported, IsEnded, IsUsage, IsWhole, Means, ReportsWith}
-use Rattle.hk_verify.specs.Headline.{IsHandler, AcceptsCorrect, RejectsRefuted, Refutes}
+use Rattle.hk_verify.specs.Verdicts.{AreCut}
+use Rattle.hk_verify.specs.Answers.{SinkView, Means, ReportsWith}
+use Rattle.hk_verify.specs.Headline.{IsHandler, AcceptsCorrect, RejectsRefuted}
 
 -- What is there is one thing.
 pub some_is : {A : Type 0} {x y : A} → Some x ≡ Some y → x ≡ y

@@ -1,6 +1,6 @@
 -- Three words.
 
-use Rattle.std.proofs.Common.{ℕ, ◌+◌, ◌<◌, ◌≤◌, ◌≡◌, List, [], ◌∷◌, length, map, slice_index_or, String, Global, string_bytes, refl, ap, sym, ◌∙◌, arith}
+use Rattle.std.proofs.Common.{ℕ, ◌<◌, ◌≤◌, ◌≡◌, List, [], ◌∷◌, length, map, slice_index_or, String, Global, string_bytes, ap, sym, ◌∙◌, arith}
 
 -- A list of three is its first, second and third.
 three : {A : Type 0} (xs : List A) (a b c : A) → 3 ≤ length xs → length xs < 4

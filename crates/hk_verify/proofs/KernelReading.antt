@@ -1,6 +1,6 @@
 -- From what reading a text gives to the kernel that it spells.
 
-use Rattle.std.proofs.Common.{ℕ, ◌≡◌, ◌⊎◌, inl, inr, List, Result, Ok, Err, refl, ap, sym, ◌∙◌, subst}
+use Rattle.std.proofs.Common.{ℕ, ◌≡◌, inl, inr, List, Result, Ok, Err, ap, sym, ◌∙◌}
 use Rattle.ir_ast.specs.Program.{ModuleView}
 use Rattle.ir_ast.specs.ProgramView.{view_module}
 use Rattle.ir_ast.specs.declared.fault.KernelFault.{KernelFault}
@@ -12,7 +12,7 @@ use Rattle.ir_ast.specs.declared.module.Module.{Module}
 use Rattle.ir_read.specs.Spelling.{IsModuleText, IsFaultyText, IsModule, IsFault, IsStop}
 use Rattle.ir_thin.specs.declared.tree.Kernel.{Kernel}
 use Rattle.ir_meaning.specs.Thin.{thin_of, IsThinStop}
-use Rattle.hk_verify.specs.Kernels.{IsKernelText, IsTheKernel, IsNotThin, IsKernelFault, IsRefusedKernel, IsKernelStop}
+use Rattle.hk_verify.specs.Kernels.{IsTheKernel, IsRefusedKernel, IsKernelStop}
 
 ok_is : {A E : Type 0} (r : Result A E) (x y : A) → r ≡ Ok x → r ≡ Ok y → x ≡ y
 ok_is r x y p q = cc

@@ -1,6 +1,6 @@
 -- Two loads, one after the other.
 
-use Rattle.std.proofs.Common.{ℕ, ◌≡◌, Option, Some, List, [], ◌∷◌, refl, subst}
+use Rattle.std.proofs.Common.{ℕ, ◌≡◌, Option, List, [], ◌∷◌, refl, subst}
 use Rattle.hk_io.specs.Held.{Files}
 use Rattle.hk_verify.specs.declared.answer.TopFault.{TopFault}
 use Rattle.hk_verify.specs.Inputs.{Asked, IsLoaded, IsLoadFault, IsLoadingFault, ShelfView, seen}

@@ -1,6 +1,6 @@
 -- One more verdict at the end of the list.
 
-use Rattle.std.proofs.Common.{ℕ, zero, suc, ◌+◌, ◌<◌, ◌≤◌, ◌≡◌, List, [], ◌∷◌, ◌++◌, Option, None, Some, length, take, drop, slice_index_or, refl, ap, sym, ◌∙◌, subst, arith}
+use Rattle.std.proofs.Common.{ℕ, ◌+◌, ◌<◌, ◌≤◌, ◌≡◌, List, [], ◌∷◌, ◌++◌, Option, None, Some, length, take, drop, slice_index_or, refl, ap, sym, ◌∙◌, subst}
 use Rattle.std.specs.List.{AllZip, zip, flat_map}
 use Rattle.std.proofs.lemmas.List.{take_more, take_all, take-append-drop, append_assoc, append-nil}
 use Rattle.hk_io.specs.Shown.{shown_with, ShowsPrefix}

@@ -1,6 +1,6 @@
 -- The whole report: the opening and then every verdict.
 
-use Rattle.std.proofs.Common.{ℕ, Bool, true, false, ◌≡◌, List, ◌++◌, Option, Some, None, Result, Ok, Err, OnOk, refl, ap, sym, ◌∙◌, subst, arith}
+use Rattle.std.proofs.Common.{ℕ, false, ◌≡◌, List, Option, Result, Ok, Err, OnOk, ap, sym, ◌∙◌, subst}
 use Rattle.std.specs.Result.{is_err}
 use Rattle.hk_io.specs.Shown.{shown_with}
 use Rattle.ir_thin.specs.declared.tree.Kernel.{Kernel}

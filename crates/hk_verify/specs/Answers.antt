@@ -1,6 +1,6 @@
 -- What an answer to `verify KERNEL SPEC` means: the headline, and the cause of each answer.
 
-use Rattle.std.specs.Prelude.{ℕ, ◌≡◌, ◌⊎◌, ◌++◌, ◌∷◌, [], List, Option, Some, None, ⊤, length, slice_get}
+use Rattle.std.specs.Prelude.{ℕ, ◌≡◌, ◌⊎◌, [], List, Option, Some, None}
 use Rattle.hk_io.specs.Faults.{Rose}
 use Rattle.hk_io.specs.Shown.{shown_with, ShowsPrefix}
 use Rattle.ir_thin.specs.declared.tree.Kernel.{Kernel}

@@ -1,10 +1,8 @@
 -- The headline in the subject's own words, of files that the shelf tells of: what an acceptance, a rejection and each
 -- other answer to `verify KERNEL SPEC` mean.
 
-use Rattle.std.specs.Prelude.{ℕ, ◌≡◌, ◌<◌, ◌≤◌, ◌⊎◌, ◌++◌, List, Option, Some, None, length, slice_get}
-use Rattle.hk_io.specs.Faults.{Rose}
+use Rattle.std.specs.Prelude.{ℕ, ◌≡◌, List, Option, Some, slice_get}
 use Rattle.hk_io.specs.Held.{Files, held_under}
-use Rattle.hk_io.specs.Shown.{shown_with}
 use Rattle.ir_thin.specs.declared.tree.Kernel.{Kernel}
 use Rattle.spec_thin.specs.declared.tree.Spec.{Spec}
 use Rattle.spec_thin.specs.declared.tree.Transition.{Transition}
@@ -13,10 +11,7 @@ use Rattle.hk_replay.specs.declared.Obligation.{Obligation}
 use Rattle.hk_replay.specs.declared.Case.{Case}
 use Rattle.hk_replay.specs.Violation.{IsCase, IsCorrect, IsObligation, Violates}
 use Rattle.hk_report.specs.declared.verdict.Verdict.TheVariants.{Accepted, Rejected}
-use Rattle.hk_report.specs.declared.verdict.InitVerdict.TheVariants.{Holds}
-use Rattle.hk_report.specs.Report.{report_text}
 use Rattle.hk_verify.specs.declared.answer.Answer.{Answer}
-use Rattle.hk_verify.specs.declared.answer.TopFault.TheVariants.{Read, Long, Kernel as OfKernel, Spec as OfSpec, Wide, Memory, Write}
 use Rattle.hk_verify.specs.Kernels.{IsKernelText}
 use Rattle.hk_verify.specs.Words.{IsVerify}
 

@@ -1,6 +1,6 @@
 -- The kernel that a text spells, and why a text spells none.
 
-use Rattle.std.specs.Prelude.{ℕ, ◌≡◌, ◌⊎◌, List, Result, Ok, Err, ⊤}
+use Rattle.std.specs.Prelude.{ℕ, ◌≡◌, ◌⊎◌, List, Ok, Err, ⊤}
 use Rattle.ir_ast.specs.Program.{ModuleView}
 use Rattle.ir_ast.specs.declared.fault.KernelFault.{KernelFault}
 use Rattle.ir_ast.specs.declared.fault.KernelReason.TheVariants.{K9}

@@ -1,4 +1,4 @@
-use Rattle.std.proofs.Common.{◌≡◌, sym, subst}
+use Rattle.std.proofs.Common.{sym, subst}
 use Rattle.hk_verify.specs.Kernels.{IsTheKernel}
 use Rattle.hk_verify.proofs.KernelReading.{found, stopped_at_thin, stopped_at_text}
 use Rattle.hk_verify.proofs.inputs.read_kernel.Goals as goal

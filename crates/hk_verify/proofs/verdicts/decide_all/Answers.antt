@@ -1,6 +1,6 @@
-use Rattle.std.proofs.Common.{◌+◌, refl, ap, sym, ◌∙◌}
+use Rattle.std.proofs.Common.{◌+◌, refl, ap, ◌∙◌}
 use Rattle.std.proofs.lemmas.Result.{err_from_is_err_and}
-use Rattle.hk_verify.proofs.Pushes.{goes_on_at, is_cut_at, none_yet, all_shown}
+use Rattle.hk_verify.proofs.Pushes.{goes_on_at, is_cut_at, none_yet}
 use Rattle.hk_verify.proofs.verdicts.decide_all.Goals as goal
 
 pub loop-transition-init : goal.loop-transition-init
