@@ -16,7 +16,7 @@ for name in hk_cnf hk_lrat hk_cdcl; do
 done
 cat >"$work/crates.txt" <<'CRATES'
 hk_cnf: indexmap itoa thiserror
-hk_lrat: hk_cnf thiserror
+hk_lrat: hk_cnf memchr thiserror
 hk_cdcl: hk_cnf hk_lrat
 solve_list: hk_cnf hk_cdcl hk_lrat
 CRATES

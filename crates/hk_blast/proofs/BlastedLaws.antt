@@ -1,10 +1,10 @@
 -- What is said of a table stays as gates and entries are added, and of a front of it; and what it says of assignments.
-use Rattle.std.proofs.Common.{◌≡◌, ◌⊎◌, inl, inr, ℕ, zero, suc, ◌+◌, ◌*◌, ◌<◌, ◌≤◌, Bool, true, cond, nat_eq, List, [], ◌∷◌, ◌++◌, length, take, ℤ, Some, None, refl, sym, ◌∙◌, ap, subst, arith}
-use Rattle.std.specs.Prelude.{slice_get, unwrap_or, is_some}
+use Rattle.std.proofs.Common.{◌≡◌, ◌⊎◌, inl, inr, ℕ, zero, suc, ◌+◌, ◌*◌, ◌<◌, ◌≤◌, ◌^◌, Bool, true, cond, nat_eq, List, [], ◌∷◌, ◌++◌, length, take, ℤ, Option, Some, None, refl, sym, ◌∙◌, ap, subst, arith, pow-suc}
+use Rattle.std.specs.Prelude.{slice_get, unwrap_or, is_some, option_map}
 use Rattle.std.specs.List.{All}
 use Rattle.std.specs.Map.{lookup}
 use Rattle.std.proofs.lemmas.Bool.{cases_lt}
-use Rattle.std.proofs.lemmas.Option.{same_Some, slice_get_within, get_or_from_slice_get}
+use Rattle.std.proofs.lemmas.Option.{none-some, same_Some, slice_get_within, get_or_from_slice_get}
 use Rattle.std.proofs.lemmas.List.Elements.{All-nil, All-head, All-tail, All-cons}
 use Rattle.hk_term.specs.Shape.{IsWidth, width}
 use Rattle.hk_term.specs.declared.node.Node.{Node}
@@ -15,7 +15,7 @@ use Rattle.hk_cnf.specs.Circuit.{Circuit, gate_value, variable}
 use Rattle.hk_cnf.specs.CircuitGrowth.{values_of}
 use Rattle.hk_cnf.proofs.Running.{place_of-variable}
 use Rattle.hk_circuit.specs.Words.{bit, gate_number}
-use Rattle.hk_circuit.proofs.WordNumbers.{within_more, number-same}
+use Rattle.hk_circuit.proofs.WordNumbers.{within_more, number-same, bit-below}
 use Rattle.hk_blast.specs.Blasted.{Words, word_in, HasWord, HasParts, HasValue, is_input_at, input_places, variables_from, IsFree, IsBlasted, AreBlasted, word_number, HaveValues}
 use Rattle.hk_blast.proofs.WordLists.{word_of, cases_word, word_front, entry_of, get_front, front_front, get_push, is_input-at, places-all}
 
@@ -84,6 +84,14 @@ words-within nodes c table h k = pick (cases_word (lookup (nat_eq k) table))
 -- a literal word that is got
 pub got-within : (nodes : List Node) (c : Circuit) (table : Words) (t : ℕ) (w : List ℤ) → AreBlasted nodes c table → Some w ≡ lookup (nat_eq t) table → All (IsWithin c.vars) w
 got-within nodes c table t w h e = subst (λ o. All (IsWithin c.vars) (unwrap_or o [])) (sym e) (words-within nodes c table h t)
+
+-- the literals of an entry by its place
+pub at-within : (nodes : List Node) (c : Circuit) (table : Words) (i : ℕ) (w : List ℤ) → AreBlasted nodes c table → option_map (λ e. e.1) (slice_get table i) ≡ Some w → All (IsWithin c.vars) w
+at-within nodes c table i w h e = pick (slice_get table i) refl e
+  where
+    pick : (o : Option (ℕ × List ℤ)) → slice_get table i ≡ o → option_map (λ x. x.1) o ≡ Some w → All (IsWithin c.vars) w
+    pick None f g = absurd (none-some w g)
+    pick (Some x) f g = subst (All (IsWithin c.vars)) (same_Some x.1 w g) (h i x f).within
 
 pub front-blasted : (nodes : List Node) (c : Circuit) (table : Words) (n : ℕ) → AreBlasted nodes c table → AreBlasted nodes c (take n table)
 front-blasted nodes c table n h i e at =
@@ -183,9 +191,14 @@ whole-value nodes c table v number h same t node at has =
     funs : numbers ≡ number
     funs = λ i ls. same ls i
 
-word_number-is : (c : Circuit) (a : List Bool) → ((l : ℤ) → gate_value c l (values_of a) ≡ value_at a l) → (ls : List ℤ) → gate_number c ls (values_of a) ≡ word_number a ls
+pub word_number-is : (c : Circuit) (a : List Bool) → ((l : ℤ) → gate_value c l (values_of a) ≡ value_at a l) → (ls : List ℤ) → gate_number c ls (values_of a) ≡ word_number a ls
 word_number-is c a e [] = refl
 word_number-is c a e (l ∷ ls) = λ i. bit (e l i) + 2 * word_number-is c a e ls i
+
+-- a word's number is below the power of two of its length
+pub word_number-below : (a : List Bool) (ls : List ℤ) → word_number a ls < 2 ^ length ls
+word_number-below a [] = omega arith
+word_number-below a (l ∷ ls) = omega (arith, word_number-below a ls, bit-below (value_at a l), pow-suc 2 (length ls))
 
 pub have-values : (nodes : List Node) (c : Circuit) (table : Words) (a : List Bool) → AreBlasted nodes c table → ((l : ℤ) → gate_value c l (values_of a) ≡ value_at a l) → HaveValues nodes a table
 have-values nodes c table a h e = whole-value nodes c table (values_of a) (word_number a) h (word_number-is c a e)

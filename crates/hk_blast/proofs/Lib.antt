@@ -2,6 +2,7 @@ pub mod AssignmentLaws
 pub mod BlastedLaws
 pub mod Bottoms
 pub mod FreshWords
+pub mod LongerLists
 pub mod NodeLaws
 pub mod OnlyInputs
 pub mod Unfixed

@@ -10,16 +10,17 @@ use Rattle.std.proofs.lemmas.List.Elements.{All-head, All-tail, Contains-append_
 use Rattle.std.proofs.lemmas.Grind.{flat_map-append}
 use Rattle.hk_term.specs.declared.node.Node.{Node}
 use Rattle.hk_cnf.specs.Literal.{place_of}
-use Rattle.hk_cnf.specs.Circuit.{Gate, Circuit, run, gate_value, variable}
+use Rattle.hk_cnf.specs.Circuit.{Gate, Circuit, gate_value, variable}
 use Rattle.hk_cnf.specs.CircuitParts.{InOrder, IsCircuit}
 use Rattle.hk_cnf.specs.CircuitGrowth.{inputs_of}
 use Rattle.hk_cnf.specs.Determined.{is_output}
-use Rattle.hk_cnf.proofs.Determination.{is_output-later, is_output-reverse, run-other}
-use Rattle.hk_cnf.proofs.Running.{lit_true-variable, place_of-variable}
+use Rattle.hk_cnf.proofs.Determination.{is_output-later, is_output-reverse}
+use Rattle.hk_cnf.proofs.Running.{place_of-variable}
+use Rattle.hk_cnf.proofs.Unfixed.{unfixed, unfixed-value}
 use Rattle.hk_blast.specs.Blasted.{Words, is_input_at, places_of, input_places, variables_from, Lengthens, IsFree, IsBlasted, AreBlasted, AddsInputs}
 use Rattle.hk_blast.proofs.WordLists.{places-push, is_input-at}
 use Rattle.hk_blast.proofs.BlastedLaws.{places-each}
-use Rattle.hk_blast.proofs.Unfixed.{unfixed, inputs-unfixed}
+use Rattle.hk_blast.proofs.Unfixed.{inputs-unfixed}
 
 -- how many numbers below n fail the test
 abbrev failing : (ℕ → Bool) → ℕ → ℕ
@@ -88,11 +89,6 @@ unfixed-count c h = omega (arith, outputs (reverse c.gates) c.vars c.vars h.in_o
   where
     same : is_output (reverse c.gates) ≡ is_output c.gates
     same = λ i q. is_output-reverse c.gates q i
-
--- a variable that no gate fixes has the value that is chosen
-chosen : (c : Circuit) (p : ℕ) → is_output c.gates p ≡ false → (v : ℕ → Bool) → gate_value c (variable p) v ≡ v p
-unfolding gate_value
-chosen c p e v = lit_true-variable (run (reverse c.gates) v) p ∙ run-other (reverse c.gates) v p (is_output-reverse c.gates p ∙ e)
 
 -- from a number on, each larger than the one before
 abbrev Rise : ℕ → List ℕ → Type 0
@@ -205,7 +201,7 @@ only-inputs nodes c d old new hc hd same h adds counts p l u e = pick (among f p
     free = behind (λ q. f q ≡ false) (inputs-unfixed nodes d new hd h)
 
     stays : (q : ℕ) → q < c.vars → is_output c.gates q ≡ false → is_output d.gates q ≡ false
-    stays q b k = unfixed d q hd (λ v. same (variable q) (subst (λ x. x < c.vars) (sym (place_of-variable q)) b) v ∙ chosen c q k v)
+    stays q b k = unfixed d q hd (λ v. same (variable q) (subst (λ x. x < c.vars) (sym (place_of-variable q)) b) v ∙ unfixed-value c q k v)
 
     pick : (Contains more p) ⊎ (failing f c.vars + length more + 1 ≤ failing f d.vars) → Contains (input_places nodes new) p
     pick (inl k) = subst (λ xs. Contains xs p) (sym split) (Contains-append_right (input_places nodes old) more p k)

@@ -6,6 +6,7 @@
 #![tactic(auto)]
 
 mod input;
+pub mod laws;
 mod node;
 mod operation;
 mod table;

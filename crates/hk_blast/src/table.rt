@@ -1,12 +1,12 @@
 //! The words of the terms that were blasted.
 
-ghost use Rattle.std.specs.Prelude.{◌≡◌, ℕ, ℤ, Bool, List, ◌≤◌, ◌<◌, ◌++◌, ◌∷◌, [], nat_eq, length, take, option_map, OnOk, OnErr, IfSome, All};
+ghost use Rattle.std.specs.Prelude.{◌≡◌, ℕ, ℤ, Bool, List, ◌≤◌, ◌<◌, ◌++◌, ◌∷◌, [], nat_eq, length, take, slice_get, option_map, Some, OnOk, OnErr, IfSome, All};
 ghost use Rattle.std.specs.Map.{lookup};
 ghost use Rattle.hk_cnf.specs.Literal.{IsWithin, place_of};
 ghost use Rattle.hk_cnf.specs.Circuit.{Circuit, gate_value};
 ghost use Rattle.hk_term.specs.Shape.{width};
 ghost use Rattle.hk_term.specs.declared.node.Node.{Node};
-ghost use Rattle.hk_blast.specs.Blasted.{word_in, IsMissing, AreBlasted};
+ghost use Rattle.hk_blast.specs.Blasted.{Words, word_in, HasWord, IsMissing, AreBlasted, Lengthens};
 
 use hk_cnf::Lit;
 use hk_term::TermId;
@@ -63,14 +63,41 @@ impl BitTable {
     }
 
     /// Keeps the terms that were blasted first, so many. It takes no memory. What is said of the table holds of what is
-    /// kept, also over gates that are cut so that the kept words are within them.
+    /// kept, also over gates that are cut so that the kept words are within them. Where the table had this length before
+    /// entries were added, it is as it was.
     pub fn cut(&mut self, len: u64)
         requires { len ≤ length self.old }
         ensures prefix { self.new ≡ take len self.old }
         ensures keeps { (nodes : List Node) (c : Circuit) → AreBlasted nodes c self.old → AreBlasted nodes c self.new }
         ensures keeps_over { (nodes : List Node) (c d : Circuit) → AreBlasted nodes c self.old → All (λ e. All (IsWithin d.vars) e.1) self.new → ((l : ℤ) → place_of l < d.vars → (v : ℕ → Bool) → gate_value d l v ≡ gate_value c l v) → AreBlasted nodes d self.new }
+        ensures back { (nodes : List Node) (first : ℕ) (before : Words) → Lengthens nodes first before self.old → len ≡ length before → self.new ≡ before }
     {
         self.words.truncate(len as usize);
+    }
+
+    /// The term that was blasted at this place, counted from 0 in the order of blasting.
+    pub fn at(&self, i: u64) -> TermId
+        requires { i < length self.now }
+        ensures term { option_map (λ e. e.0) (slice_get self.now i) ≡ Some result }
+        ensures entry { slice_get self.now i ≡ Some (result, word_in self.now result) }
+        ensures there { HasWord self.now result }
+    {
+        match self.words.get_index(i as usize) {
+            Some((t, _)) => *t,
+            None => unreachable!(),
+        }
+    }
+
+    /// The literals of the term that was blasted at this place, least bit first.
+    pub fn word_at(&self, i: u64) -> &[Lit]
+        requires { i < length self.now }
+        ensures word { option_map (λ e. e.1) (slice_get self.now i) ≡ Some result.now }
+        ensures within { (nodes : List Node) (c : Circuit) → AreBlasted nodes c self.now → All (IsWithin c.vars) result.now }
+    {
+        match self.words.get_index(i as usize) {
+            Some((_, bits)) => bits.items.as_slice(),
+            None => unreachable!(),
+        }
     }
 
     /// The literals of a term, least bit first; none where it was not blasted.

@@ -3,9 +3,11 @@
 ghost use Rattle.std.specs.Prelude.{◌≡◌, ◌⊎◌, ◌≤◌, ◌<◌, true, false, ℕ, ℤ, Bool, List, IfOk, OnOk, IfNone, IfSome, length, reverse, Some, All, Contains};
 ghost use Rattle.hk_cnf.specs.Literal.{IsWithin, place_of};
 ghost use Rattle.hk_cnf.specs.Clauses.{clauses_value};
-ghost use Rattle.hk_cnf.specs.Circuit.{Circuit, gate_value};
+ghost use Rattle.hk_cnf.specs.Circuit.{Circuit, gate_value, all_gate_clauses};
 ghost use Rattle.hk_cnf.specs.CircuitGrowth.{IsGrown, inputs_of};
 ghost use Rattle.hk_cnf.specs.Determined.{is_output};
+ghost use Rattle.hk_cnf.specs.Front.{IsFront};
+ghost use Rattle.hk_cnf.specs.Required.{required_of};
 ghost use Rattle.hk_term.specs.Walk.{PartsBefore};
 ghost use Rattle.hk_circuit.specs.Words.{gate_number};
 ghost use Rattle.hk_blast.specs.Blasted.{Words, HasWord, IsMissing, IsPart, HasParts, Needs, AreBlasted, Lengthens, AddsInputs, input_places, ExtendsBy, HaveValues};
@@ -154,8 +156,9 @@ fn blast_new(
 /// Makes the circuit of a term of the list, and enters the words of the term and of its parts that have none yet. The table
 /// holds terms of this list, over these gates. Variables, entries of arrays and quantifiers get fresh variables, least bit
 /// first; the index of an entry and the body of a quantifier are not looked at. One more variable is made for the literal
-/// that is true. Table and gates grow at their ends alone. Without memory both may have grown, and all that is said of the
-/// table holds.
+/// that is true. Table and gates grow at their ends alone, so that both can be cut back to what they were. Without memory
+/// both may have grown, and all that is said of the table holds. A table over a list of terms is one over any longer list
+/// (`laws::a_table_outlives_a_longer_list`).
 pub fn blast(
     terms: &Terms,
     t: TermId,
@@ -168,6 +171,8 @@ pub fn blast(
     ensures keeps { (l : ℤ) → place_of l < gates.old.vars → (v : ℕ → Bool) → gate_value gates.new l v ≡ gate_value gates.old l v }
     ensures grows { (c : Circuit) → IsGrown c gates.old → IsGrown c gates.new }
     ensures required { (inputs_of gates.new).required ≡ (inputs_of gates.old).required }
+    ensures beside { required_of gates.new ≡ required_of gates.old }
+    ensures front { (c : Circuit) → IsFront c gates.old → IsFront c gates.new }
     ensures keeps_words { (ls : List ℤ) → All (IsWithin gates.old.vars) ls → (v : ℕ → Bool) → gate_number gates.new ls v ≡ gate_number gates.old ls v }
     ensures there { OnOk result (HasWord bits.new t) }
     ensures table { AreBlasted terms.now gates.new bits.new }
@@ -177,7 +182,7 @@ pub fn blast(
     ensures unfixed { All (λ p. is_output gates.new.gates p ≡ false) (input_places terms.now bits.new) }
     ensures only_inputs { OnOk result ((p : ℕ) → gates.old.vars ≤ p → p < gates.new.vars → is_output gates.new.gates p ≡ false → Contains (input_places terms.now bits.new) p) }
     ensures extends { (a : List Bool) → length a ≡ gates.old.vars → clauses_value a gates.old.clauses ≡ true → (chosen : ℕ → Bool) → ExtendsBy terms.now gates.new bits.new a chosen }
-    ensures values { (a : List Bool) → clauses_value a gates.new.clauses ≡ true → HaveValues terms.now a bits.new }
+    ensures values { (a : List Bool) → clauses_value a (all_gate_clauses gates.new.gates) ≡ true → HaveValues terms.now a bits.new }
 {
     // for its clause `circuit`, before and after
     gates.sizes();

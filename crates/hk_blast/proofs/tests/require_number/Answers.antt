@@ -1,5 +1,4 @@
-use Rattle.std.proofs.Common.{◌∷◌, [], List, ℤ, sym, subst}
-use Rattle.std.specs.List.{All}
+use Rattle.std.proofs.Common.{[], sym, subst}
 use Rattle.std.proofs.lemmas.List.Elements.{All-cons, All-nil}
 use Rattle.hk_cnf.specs.Literal.{IsWithin}
 use Rattle.hk_blast.proofs.tests.require_number.Goals as goal

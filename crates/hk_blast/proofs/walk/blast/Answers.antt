@@ -1,7 +1,9 @@
 use Rattle.std.proofs.Common.{arith}
 use Rattle.std.proofs.lemmas.Result.{on_ok_weaker}
 use Rattle.hk_cnf.proofs.CircuitLaws.{IsGrown-refl}
-use Rattle.hk_cnf.proofs.CircuitValues.{gate_value-satisfied}
+use Rattle.hk_cnf.proofs.OwnClauses.{gate_value-own}
+use Rattle.hk_cnf.proofs.FrontLaws.{IsFront-refl, fronts-grown}
+use Rattle.hk_cnf.proofs.RequiredLaws.{required-kept}
 use Rattle.hk_circuit.proofs.WordNumbers.{words}
 use Rattle.hk_blast.proofs.BlastedLaws.{have-values}
 use Rattle.hk_blast.proofs.AssignmentLaws.{extends-by}
@@ -21,7 +23,7 @@ returns-clause-extends c = λ a n s chosen.
 pub returns-clause-values : goal.returns-clause-values
 returns-clause-values c = λ a s.
     have-values c.args.terms.now c.blast_new-done.new.gates c.blast_new-done.new.bits a c.blast_new-done.ensures.table
-    (λ l. gate_value-satisfied c.blast_new-done.new.gates a c.sizes-2.ensures.circuit s l)
+    (λ l. gate_value-own c.blast_new-done.new.gates a c.sizes-2.ensures.circuit s l)
 
 pub returns-clause-lengthens : goal.returns-clause-lengthens
 returns-clause-lengthens c =
@@ -38,3 +40,11 @@ returns-clause-only_inputs c =
     (only-inputs c.args.terms.now c.args.gates.now c.blast_new-done.new.gates c.args.bits.now c.blast_new-done.new.bits c.sizes.ensures.circuit c.sizes-2.ensures.circuit e.keeps e.table
     (e.lengthens first c.args.bits.now (omega arith) (lengthens-none c.args.terms.now first c.args.bits.now)))
     e.inputs
+
+pub returns-clause-front : goal.returns-clause-front
+returns-clause-front c = fronts-grown c.args.gates.now c.blast_new-done.new.gates c.blast_new-done.ensures.grows
+
+pub returns-clause-beside : goal.returns-clause-beside
+returns-clause-beside c =
+    required-kept c.args.gates.now c.blast_new-done.new.gates c.sizes.ensures.circuit c.sizes-2.ensures.circuit
+    (fronts-grown c.args.gates.now c.blast_new-done.new.gates c.blast_new-done.ensures.grows c.args.gates.now (IsFront-refl c.args.gates.now)) c.blast_new-done.ensures.required
