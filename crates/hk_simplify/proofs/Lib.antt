@@ -1,4 +1,7 @@
 pub mod BitLaws
+pub mod FormLaws
+pub mod NumberLaws
 pub mod PartLaws
 pub mod RingLaws
+pub mod SumLaws
 pub mod TupleLaws

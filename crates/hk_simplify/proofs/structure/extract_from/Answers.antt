@@ -3,6 +3,7 @@ use Rattle.hk_term.specs.Shape.{width}
 use Rattle.hk_term.specs.Meaning.{value}
 use Rattle.hk_simplify.specs.Forms.{form_value}
 use Rattle.hk_simplify.proofs.PartLaws.{bits_above, zeros_from_bottom, sign_from_bottom}
+use Rattle.hk_simplify.proofs.NumberLaws.{border_zeros}
 use Rattle.hk_simplify.proofs.structure.extract_from.Goals as goal
 
 pub returns-in-Zero-clause-value : goal.returns-in-Zero-clause-value
@@ -25,3 +26,8 @@ returns-in-Sign-clause-value c =
     let known = rw c.in-Sign.is at c.requires.known in
     let narrower : c.args.to ≤ width c.args.t.now c.args.a = omega arith in
     λ v. c.sign_extend_form.ensures.value v ∙ sign_from_bottom c.args.to c.args.low _ _ _ _ c.if-low-eq0-2.true (known v) narrower
+
+pub returns-in-Zero-3-clause-value : goal.returns-in-Zero-3-clause-value
+returns-in-Zero-3-clause-value c =
+    let known = rw c.in-Zero-3.is at c.requires.known in
+    λ v. border_zeros c.args.to c.args.low c.sized-u.result (value c.args.t.now c.args.x v) (value c.args.t.now c.args.a v) (known v) (c.sized-u.ensures.below v) c.if-u-low-2.true
