@@ -75,7 +75,7 @@ urem_power w a b k is =
 no_quotient : (n k b : ℕ) → n < 2 ^ k → k ≤ b → n / 2 ^ b ≡ 0
 no_quotient n k b below h = div-eq_of_lt (omega (arith, below, pow_mono h))
 
-signs_only : (w b : ℕ) (z : ℤ) → IsTrue (fits_signed w z) → w - 1 ≤ b → int_div_euclid z (pos (2 ^ (w - 1))) ≡ int_div_euclid z (pos (2 ^ b))
+pub signs_only : (w b : ℕ) (z : ℤ) → IsTrue (fits_signed w z) → w - 1 ≤ b → int_div_euclid z (pos (2 ^ (w - 1))) ≡ int_div_euclid z (pos (2 ^ b))
 signs_only w b (pos n) fits h =
     let below = ltb-true n (2 ^ (w - 1)) fits in
     ap pos (no_quotient n (w - 1) (w - 1) below (omega arith) ∙ sym (no_quotient n (w - 1) b below h))

@@ -121,7 +121,8 @@ fn extractions_reach_into_extensions(rt: HostRuntime) -> Result<(), AllocError> 
         (true, 7, 0, Shape::Variable(1)),
         (true, 5, 2, Shape::Bits(2, 0)),
         (true, 15, 0, Shape::Signs(0)),
-        (true, 63, 32, Shape::Bits(32, 1)),
+        (true, 11, 4, Shape::Signs(2)),
+        (true, 63, 32, Shape::Signs(2)),
     ];
     for (signed, high, low, answer) in rows {
         assert!(rt; low <= high && high < 64);

@@ -191,16 +191,37 @@ fn extract_from(t: &Terms, to: u32, low: u32, a: TermId, kind: TermResize, x: Te
         TermResize::Zero if u <= low => number(to, 0),
         TermResize::Zero if low == 0 && u <= to => zero_extend_form(t, to, x),
         TermResize::Sign if low == 0 && u <= to => sign_extend_form(t, to, x),
-        TermResize::Zero if u < low + to => Form::Over(
-            Node::Resize {
-                kind: TermResize::Extract { low },
-                to: u - low,
-                a: x,
-            },
-            Outer::Resized(TermResize::Zero, to),
-        ),
+        TermResize::Zero if u < low + to => part_of_extension(TermResize::Zero, to, low, x, u),
+        TermResize::Sign if u < low + to => {
+            part_of_extension(TermResize::Sign, to, first_bit(to, low, u), x, u)
+        }
         _ => resized(t, TermResize::Extract { low }, to, a),
     }
+}
+
+// The first bit of a number of width u that bits of its extension hold: of bits above it that is its sign.
+fn first_bit(to: u32, low: u32, u: u32) -> u32
+    requires some { 1 ≤ u }
+    requires part { 1 ≤ to }
+    requires across { u < low + to }
+    ensures within { result < u }
+    ensures narrower { u - result ≤ to }
+    ensures first { ((result ≡ low) × (low < u)) ⊎ ((result ≡ u - 1) × (u - 1 ≤ low)) }
+{
+    if low < u { low } else { u - 1 }
+}
+
+// The bits of a term of width u from `low` on, extended.
+fn part_of_extension(kind: TermResize, to: u32, low: u32, x: TermId, u: u32) -> Form
+    requires { low < u }
+    ensures { result ≡ Form.Over (Node.Resize (TermResize.Extract low) (u - low) x) (Outer.Resized kind to) }
+{
+    let part = Node::Resize {
+        kind: TermResize::Extract { low },
+        to: u - low,
+        a: x,
+    };
+    Form::Over(part, Outer::Resized(kind, to))
 }
 
 // How a term was made of one at another width.
