@@ -1,5 +1,6 @@
 pub mod BitLaws
 pub mod FormLaws
+pub mod LimitLaws
 pub mod NumberLaws
 pub mod PartLaws
 pub mod RingLaws

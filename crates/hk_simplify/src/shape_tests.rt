@@ -616,6 +616,8 @@ fn operations_with_numbers_are_simplified(rt: HostRuntime) -> Result<(), AllocEr
         (Made::Zeros, TermKind::Ult, 256, Is(Shape::Number(1))),
         (Made::Signs, TermKind::Eq, 65408, With(TermKind::Eq, 128)),
         (Made::Signs, TermKind::Eq, 128, Is(Shape::Number(0))),
+        (Made::Signs, TermKind::Ult, 300, With(TermKind::Ult, 128)),
+        (Made::Signs, TermKind::Ult, 65416, With(TermKind::Ult, 136)),
         (Made::Choice, TermKind::Eq, 5, Is(Shape::Variable(7))),
         (Made::Choice, TermKind::Eq, 7, Is(Shape::Number(0))),
         (Made::Pair, TermKind::Eq, 4660, Is(Shape::Pair(5, 7))),
