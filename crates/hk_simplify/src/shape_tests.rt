@@ -563,20 +563,10 @@ fn given(alloc: Global, which: Made, kind: TermKind, n: u64) -> Result<Outcome, 
     requires { n < 2 ^ 16 }
 {
     let mut t = Terms::new(alloc);
+    let a = made_of(&mut t, which)?;
     let b = constant(&mut t, 16, n)?;
-    let a = made_behind(&mut t, which, b)?;
     let r = build(&mut t, kind, a, b)?;
     Ok(seen(&t, r))
-}
-
-fn made_behind(t: &mut Terms, which: Made, b: TermId) -> Result<TermId, AllocError>
-    requires first { b < length t.old }
-    requires word { width t.old b ≡ 16 }
-    ensures within { IfOk result (λ r. r < length t.new) }
-    ensures second { b < length t.new }
-    ensures widths { IfOk result (λ r. width t.new r ≡ width t.new b) }
-{
-    made_of(t, which)
 }
 
 fn seen(t: &Terms, a: TermId) -> Outcome
