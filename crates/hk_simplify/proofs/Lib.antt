@@ -1,4 +1,9 @@
 pub mod BitLaws
+pub mod FormLaws
+pub mod LimitLaws
+pub mod NumberLaws
 pub mod PartLaws
 pub mod RingLaws
+pub mod SignLaws
+pub mod SumLaws
 pub mod TupleLaws

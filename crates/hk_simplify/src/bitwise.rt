@@ -4,6 +4,7 @@ ghost use Rattle.std.specs.Prelude.{◌≡◌, ℕ, ◌<◌, ◌≤◌, length, 
 ghost use Rattle.hk_term.specs.Operations.{unary_value, binary_value};
 ghost use Rattle.hk_term.specs.Shape.{width, Grows};
 ghost use Rattle.hk_term.specs.Meaning.{Reading, value};
+ghost use Rattle.hk_simplify.specs.Adding.{Adds};
 ghost use Rattle.hk_simplify.specs.Forms.{FormFits, form_width, form_value};
 
 use crate::constants::{is_number, is_ones, number, ones};
@@ -22,6 +23,7 @@ pub fn not(t: &mut Terms, a: TermId) -> Result<TermId, AllocError>
     ensures keeps_values { (k : ℕ) → k < length t.old → (v : Reading) → value t.new k v ≡ value t.old k v }
     ensures longer { length t.old ≤ length t.new }
     ensures grows { Grows t.old t.new }
+    ensures adds { Adds 2 t.old t.new }
 {
     let form = undone(t, UnaryKind::Not, a);
     let made = make(t, form)?;
@@ -40,6 +42,7 @@ pub fn and(t: &mut Terms, a: TermId, b: TermId) -> Result<TermId, AllocError>
     ensures keeps_values { (k : ℕ) → k < length t.old → (v : Reading) → value t.new k v ≡ value t.old k v }
     ensures longer { length t.old ≤ length t.new }
     ensures grows { Grows t.old t.new }
+    ensures adds { Adds 2 t.old t.new }
 {
     let form = and_form(t, a, b);
     let made = make(t, form)?;
@@ -88,6 +91,7 @@ pub fn or(t: &mut Terms, a: TermId, b: TermId) -> Result<TermId, AllocError>
     ensures keeps_values { (k : ℕ) → k < length t.old → (v : Reading) → value t.new k v ≡ value t.old k v }
     ensures longer { length t.old ≤ length t.new }
     ensures grows { Grows t.old t.new }
+    ensures adds { Adds 2 t.old t.new }
 {
     let form = or_form(t, a, b);
     let made = make(t, form)?;
@@ -136,6 +140,7 @@ pub fn xor(t: &mut Terms, a: TermId, b: TermId) -> Result<TermId, AllocError>
     ensures keeps_values { (k : ℕ) → k < length t.old → (v : Reading) → value t.new k v ≡ value t.old k v }
     ensures longer { length t.old ≤ length t.new }
     ensures grows { Grows t.old t.new }
+    ensures adds { Adds 2 t.old t.new }
 {
     let form = xor_form(t, a, b);
     let made = make(t, form)?;

@@ -3,6 +3,7 @@
 ghost use Rattle.std.specs.Prelude.{◌≡◌, ℕ, ◌<◌, ◌≤◌, length, IfOk, if◌then◌else◌, nat_eq};
 ghost use Rattle.hk_term.specs.Shape.{width, Grows};
 ghost use Rattle.hk_term.specs.Meaning.{Reading, value};
+ghost use Rattle.hk_simplify.specs.Adding.{Adds};
 ghost use Rattle.hk_simplify.specs.Forms.{FormFits, form_width, form_value};
 
 use crate::bitwise::{and_form, or_form};
@@ -26,6 +27,7 @@ pub fn choose(t: &mut Terms, condition: TermId, a: TermId, b: TermId) -> Result<
     ensures keeps_values { (k : ℕ) → k < length t.old → (v : Reading) → value t.new k v ≡ value t.old k v }
     ensures longer { length t.old ≤ length t.new }
     ensures grows { Grows t.old t.new }
+    ensures adds { Adds 2 t.old t.new }
 {
     let form = choose_form(t, condition, a, b);
     let made = make(t, form)?;

@@ -1,14 +1,18 @@
 //! Comparisons. The result is a truth value, a term of width 1.
 
-ghost use Rattle.std.specs.Prelude.{◌≡◌, ℕ, ◌<◌, ◌≤◌, length, IfOk};
-ghost use Rattle.hk_term.specs.Operations.{unary_value, binary_value};
+ghost use Rattle.std.specs.Prelude.{◌≡◌, ℕ, ◌^◌, ◌<◌, ◌≤◌, length, nat_eq, bit_and, IfOk};
+ghost use Rattle.hk_term.specs.Operations.{bit, unary_value, binary_value};
 ghost use Rattle.hk_term.specs.Shape.{width, Grows};
 ghost use Rattle.hk_term.specs.Meaning.{Reading, value};
+ghost use Rattle.hk_simplify.specs.Adding.{Adds};
 ghost use Rattle.hk_simplify.specs.Forms.{FormFits, form_width, form_value};
 
-use crate::constants::{is_least, is_most, is_number, is_ones, number};
+use crate::against::{Halves, eq_number, halves_of, number_ult, ult_number};
+use crate::bitwise::and;
+use crate::constants::{constant, is_least, is_most, is_number, is_ones, number};
 use crate::form::{Form, make};
 use crate::plain::{binary, commuted, undone};
+use crate::sums::coincidence;
 use hk_term::{TermId, TermKind, Terms, UnaryKind};
 use std::alloc::AllocError;
 
@@ -24,8 +28,51 @@ pub fn eq(t: &mut Terms, a: TermId, b: TermId) -> Result<TermId, AllocError>
     ensures keeps_values { (k : ℕ) → k < length t.old → (v : Reading) → value t.new k v ≡ value t.old k v }
     ensures longer { length t.old ≤ length t.new }
     ensures grows { Grows t.old t.new }
+    ensures adds { Adds 6 t.old t.new }
 {
-    let form = eq_form(t, a, b);
+    match halves_of(t, a, b) {
+        Some(halves) => eq_halves(t, halves),
+        None => {
+            let form = eq_form(t, a, b);
+            let made = make(t, form)?;
+            Ok(made)
+        }
+    }
+}
+
+// Whether both halves of a concatenation are numbers.
+fn eq_halves(t: &mut Terms, halves: Halves) -> Result<TermId, AllocError>
+    requires upper { (halves.upper < length t.old) × (halves.high < 2 ^ width t.old halves.upper) }
+    requires lower { (halves.lower < length t.old) × (halves.low < 2 ^ width t.old halves.lower) }
+    ensures within { IfOk result (λ r. r < length t.new) }
+    ensures width { IfOk result (λ r. width t.new r ≡ 1) }
+    ensures value { IfOk result (λ r. (v : Reading) → value t.new r v ≡ bit_and (bit (nat_eq (value t.old halves.upper v) halves.high)) (bit (nat_eq (value t.old halves.lower v) halves.low))) }
+    ensures keeps_widths { (k : ℕ) → k < length t.old → width t.new k ≡ width t.old k }
+    ensures keeps_values { (k : ℕ) → k < length t.old → (v : Reading) → value t.new k v ≡ value t.old k v }
+    ensures longer { length t.old ≤ length t.new }
+    ensures grows { Grows t.old t.new }
+    ensures adds { Adds 6 t.old t.new }
+{
+    let upper = is_number_of(t, halves.upper, halves.high)?;
+    let lower = is_number_of(t, halves.lower, halves.low)?;
+    let both = and(t, upper, lower)?;
+    Ok(both)
+}
+
+// Whether a term is a number of its width.
+fn is_number_of(t: &mut Terms, a: TermId, n: u64) -> Result<TermId, AllocError>
+    requires term { a < length t.old }
+    requires number { n < 2 ^ width t.old a }
+    ensures within { IfOk result (λ r. r < length t.new) }
+    ensures width { IfOk result (λ r. width t.new r ≡ 1) }
+    ensures value { IfOk result (λ r. (v : Reading) → value t.new r v ≡ bit (nat_eq (value t.old a v) n)) }
+    ensures keeps_widths { (k : ℕ) → k < length t.old → width t.new k ≡ width t.old k }
+    ensures keeps_values { (k : ℕ) → k < length t.old → (v : Reading) → value t.new k v ≡ value t.old k v }
+    ensures longer { length t.old ≤ length t.new }
+    ensures grows { Grows t.old t.new }
+    ensures adds { Adds 2 t.old t.new }
+{
+    let form = eq_number(t, a, n);
     let made = make(t, form)?;
     Ok(made)
 }
@@ -43,7 +90,26 @@ fn eq_form(t: &Terms, a: TermId, b: TermId) -> Form
     } else if t.width(a) == 1 {
         eq_of_truths(t, a, b)
     } else {
-        commuted(t, TermKind::Eq, a, b)
+        eq_of_words(t, a, b)
+    }
+}
+
+// Whether two terms are equal that are no truth values.
+fn eq_of_words(t: &Terms, a: TermId, b: TermId) -> Form
+    requires first { a < length t.now }
+    requires second { b < length t.now }
+    requires widths { width t.now a ≡ width t.now b }
+    ensures fits { FormFits t.now result }
+    ensures width { form_width t.now result ≡ 1 }
+    ensures value { (v : Reading) → form_value t.now result v ≡ binary_value TermKind.Eq (width t.now a) (width t.now b) (value t.now a v) (value t.now b v) }
+{
+    match (constant(t, a), constant(t, b)) {
+        (_, Some(n)) => eq_number(t, a, n),
+        (Some(n), None) => eq_number(t, b, n),
+        _ => match coincidence(t, a, b) {
+            Some(form) => form,
+            None => commuted(t, TermKind::Eq, a, b),
+        },
     }
 }
 
@@ -86,6 +152,7 @@ pub fn ult(t: &mut Terms, a: TermId, b: TermId) -> Result<TermId, AllocError>
     ensures keeps_values { (k : ℕ) → k < length t.old → (v : Reading) → value t.new k v ≡ value t.old k v }
     ensures longer { length t.old ≤ length t.new }
     ensures grows { Grows t.old t.new }
+    ensures adds { Adds 2 t.old t.new }
 {
     let form = ult_form(t, a, b);
     let made = make(t, form)?;
@@ -109,7 +176,23 @@ fn ult_form(t: &Terms, a: TermId, b: TermId) -> Form
     } else if zero_b {
         number(1, 0)
     } else {
-        binary(t, TermKind::Ult, a, b)
+        ult_of_words(t, a, b)
+    }
+}
+
+// Whether the first of two terms is less, where neither is the same for all.
+fn ult_of_words(t: &Terms, a: TermId, b: TermId) -> Form
+    requires first { a < length t.now }
+    requires second { b < length t.now }
+    requires widths { width t.now a ≡ width t.now b }
+    ensures fits { FormFits t.now result }
+    ensures width { form_width t.now result ≡ 1 }
+    ensures value { (v : Reading) → form_value t.now result v ≡ binary_value TermKind.Ult (width t.now a) (width t.now b) (value t.now a v) (value t.now b v) }
+{
+    match (constant(t, a), constant(t, b)) {
+        (_, Some(n)) => ult_number(t, a, n),
+        (Some(n), None) => number_ult(t, n, b),
+        _ => binary(t, TermKind::Ult, a, b),
     }
 }
 
@@ -125,6 +208,7 @@ pub fn slt(t: &mut Terms, a: TermId, b: TermId) -> Result<TermId, AllocError>
     ensures keeps_values { (k : ℕ) → k < length t.old → (v : Reading) → value t.new k v ≡ value t.old k v }
     ensures longer { length t.old ≤ length t.new }
     ensures grows { Grows t.old t.new }
+    ensures adds { Adds 2 t.old t.new }
 {
     let form = slt_form(t, a, b);
     let made = make(t, form)?;

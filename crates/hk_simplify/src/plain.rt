@@ -7,7 +7,7 @@ ghost use Rattle.hk_term.specs.Meaning.{Reading, value};
 ghost use Rattle.hk_simplify.specs.Forms.{FormFits, form_width, form_value};
 
 use crate::constants::{constant, number, sized};
-use crate::form::Form;
+use crate::form::{Form, Outer};
 use hk_term::{
     Node, TermId, TermKind, TermResize, Terms, UnaryKind, apply_binary, apply_resize, apply_unary,
 };
@@ -43,8 +43,40 @@ pub(crate) fn binary(t: &Terms, kind: TermKind, a: TermId, b: TermId) -> Form
     }
 }
 
+// An operation on a term and a number of its width.
+pub(crate) fn binary_number(t: &Terms, kind: TermKind, a: TermId, n: u64) -> Form
+    requires term { a < length t.now }
+    requires number { n < 2 ^ width t.now a }
+    requires fits { BinaryFits kind (width t.now a) (width t.now a) }
+    ensures fits { FormFits t.now result }
+    ensures width { form_width t.now result ≡ binary_width kind (width t.now a) (width t.now a) }
+    ensures value { (v : Reading) → form_value t.now result v ≡ binary_value kind (width t.now a) (width t.now a) (value t.now a v) n }
+{
+    let w = sized(t, a);
+    match constant(t, a) {
+        Some(m) => folded(kind, w, w, m, n),
+        None => Form::Over(Node::Const { width: w, value: n }, Outer::Last(kind, a)),
+    }
+}
+
+// An operation on a number and a term of its width.
+pub(crate) fn number_binary(t: &Terms, kind: TermKind, n: u64, a: TermId) -> Form
+    requires term { a < length t.now }
+    requires number { n < 2 ^ width t.now a }
+    requires fits { BinaryFits kind (width t.now a) (width t.now a) }
+    ensures fits { FormFits t.now result }
+    ensures width { form_width t.now result ≡ binary_width kind (width t.now a) (width t.now a) }
+    ensures value { (v : Reading) → form_value t.now result v ≡ binary_value kind (width t.now a) (width t.now a) n (value t.now a v) }
+{
+    let w = sized(t, a);
+    match constant(t, a) {
+        Some(m) => folded(kind, w, w, n, m),
+        None => Form::Over(Node::Const { width: w, value: n }, Outer::First(kind, a)),
+    }
+}
+
 // The constant of an operation on two numbers.
-fn folded(kind: TermKind, w: u32, u: u32, m: u64, n: u64) -> Form
+pub(crate) fn folded(kind: TermKind, w: u32, u: u32, m: u64, n: u64) -> Form
     requires first_width { IsWidth w }
     requires second_width { IsWidth u }
     requires fits { BinaryFits kind w u }

@@ -1,14 +1,13 @@
 //! Quantifiers over tuples of bound variables.
 
-ghost use Rattle.std.specs.Prelude.{◌≡◌, ℕ, ◌<◌, ◌≤◌, length, IfOk, nat_eq};
+ghost use Rattle.std.specs.Prelude.{◌≡◌, ℕ, ◌+◌, ◌<◌, ◌≤◌, ◌++◌, ◌∷◌, ◌⊎◌, [], false, length, IfOk, IsTrue, nat_eq};
 ghost use Rattle.std.specs.List.{list_any};
 ghost use Rattle.hk_term.specs.Operations.{bit};
 ghost use Rattle.hk_term.specs.Shape.{width, Grows};
 ghost use Rattle.hk_term.specs.Meaning.{Reading, every_tuple, value};
-ghost use Rattle.hk_simplify.specs.Forms.{FormFits, form_width, form_value};
+ghost use Rattle.hk_term.specs.Inputs.{inputs_in};
 
-use crate::constants::{constant, number, sized};
-use crate::form::{Form, make};
+use crate::constants::{constant, sized};
 use hk_term::{Bound, BoundList, Node, TermId, Terms};
 use std::alloc::AllocError;
 
@@ -23,29 +22,31 @@ pub fn for_all(t: &mut Terms, bound: BoundList, body: TermId) -> Result<TermId, 
     ensures keeps_values { (k : ℕ) → k < length t.old → (v : Reading) → value t.new k v ≡ value t.old k v }
     ensures longer { length t.old ≤ length t.new }
     ensures grows { Grows t.old t.new }
+    ensures few { length t.new ≤ length t.old + 1 }
+    ensures inputs { (inputs_in t.new ≡ inputs_in t.old) ⊎ (inputs_in t.new ≡ inputs_in t.old ++ Node.ForAll bound body ∷ []) }
 {
-    let form = for_all_form(t, bound, body);
-    let made = make(t, form)?;
-    Ok(made)
+    if has_none(bound.as_slice()) {
+        let made = t.intern(Node::Const { width: 1, value: 1 })?;
+        Ok(made)
+    } else if is_settled(t, bound.as_slice(), body) {
+        Ok(body)
+    } else {
+        let made = t.intern(Node::ForAll { bound, body })?;
+        Ok(made)
+    }
 }
 
-fn for_all_form(t: &Terms, bound: BoundList, body: TermId) -> Form
+// Whether the body's value does not depend on the bound variables, which all take a number.
+fn is_settled(t: &Terms, bound: &[Bound], body: TermId) -> bool
     requires body { body < length t.now }
     requires truth { width t.now body ≡ 1 }
-    ensures fits { FormFits t.now result }
-    ensures width { form_width t.now result ≡ 1 }
-    ensures value { (v : Reading) → form_value t.now result v ≡ bit (every_tuple bound (λ u. nat_eq (value t.now body u) 1) v) }
+    requires some { list_any (λ b. nat_eq b.size 0) bound.now ≡ false }
+    ensures { IsTrue result → (v : Reading) → value t.now body v ≡ bit (every_tuple bound.now (λ u. nat_eq (value t.now body u) 1) v) }
 {
     let _w = sized(t, body);
-    if has_none(bound.as_slice()) {
-        number(1, 1)
-    } else if bound.as_slice().is_empty() {
-        Form::Old(body)
-    } else {
-        match constant(t, body) {
-            Some(_) => Form::Old(body),
-            None => Form::New(Node::ForAll { bound, body }),
-        }
+    match constant(t, body) {
+        Some(_) => true,
+        None => bound.is_empty(),
     }
 }
 

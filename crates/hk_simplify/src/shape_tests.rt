@@ -1,11 +1,13 @@
 //! Terms of several constructors: double negations, extractions, extensions, concatenations, choices and quantifiers. The numbers are
 //! those of Python's whole numbers.
 
-ghost use Rattle.std.specs.Prelude.{◌≡◌, ◌+◌, ◌^◌, ◌<◌, ◌≤◌, length, IfOk, IsTrue};
+ghost use Rattle.std.specs.Prelude.{◌≡◌, ℕ, ◌+◌, ◌^◌, ◌<◌, ◌≤◌, length, IfOk, IsTrue};
 ghost use Rattle.hk_term.specs.Shape.{IsWidth, width};
+ghost use Rattle.hk_term.specs.Meaning.{Reading, value};
+ghost use Rattle.hk_term.specs.Inputs.{inputs_in};
 
 use crate::constants::greatest;
-use crate::tests::{Arg, Seen, constant, operand_of, value_of, variable, wanted};
+use crate::tests::{Arg, Seen, build, constant, operand_of, value_of, variable, wanted};
 use crate::*;
 use hk_term::{Bound, BoundList, Node, TermId, TermKind, TermResize, Terms, UnaryKind};
 use std::alloc::{AllocError, Global};
@@ -115,11 +117,12 @@ fn extractions_reach_into_extensions(rt: HostRuntime) -> Result<(), AllocError> 
         (false, 5, 2, Shape::Bits(2, 0)),
         (false, 15, 0, Shape::Zeros(0)),
         (false, 63, 32, Shape::Number(0)),
-        (false, 11, 4, Shape::Bits(4, 1)),
+        (false, 11, 4, Shape::Zeros(2)),
         (true, 7, 0, Shape::Variable(1)),
         (true, 5, 2, Shape::Bits(2, 0)),
         (true, 15, 0, Shape::Signs(0)),
-        (true, 63, 32, Shape::Bits(32, 1)),
+        (true, 11, 4, Shape::Signs(2)),
+        (true, 63, 32, Shape::Signs(2)),
     ];
     for (signed, high, low, answer) in rows {
         assert!(rt; low <= high && high < 64);
@@ -454,6 +457,22 @@ fn quantifiers_are_simplified(rt: HostRuntime) -> Result<(), AllocError> {
     Ok(())
 }
 
+// Whether the sum of two terms of one width is the sum the other way round, from the clauses of the constructors alone.
+fn sums_agree(t: &mut Terms, x: TermId, y: TermId) -> Result<TermId, AllocError>
+    requires first { x < length t.old }
+    requires second { y < length t.old }
+    requires widths { width t.old x ≡ width t.old y }
+    ensures within { IfOk result (λ r. r < length t.new) }
+    ensures value { IfOk result (λ r. (v : Reading) → value t.new r v ≡ 1) }
+    ensures few { length t.new ≤ length t.old + 10 }
+    ensures inputs { inputs_in t.new ≡ inputs_in t.old }
+{
+    let sum = add(t, x, y)?;
+    let turned = add(t, y, x)?;
+    let same = eq(t, sum, turned)?;
+    Ok(same)
+}
+
 fn sums(alloc: Global) -> Result<Shape, AllocError> {
     let mut t = Terms::new(alloc);
     let x = variable(&mut t, 64, 1)?;
@@ -465,5 +484,213 @@ fn sums(alloc: Global) -> Result<Shape, AllocError> {
 #[test]
 fn sums_agree_either_way(rt: HostRuntime) -> Result<(), AllocError> {
     assert_eq!(rt; sums(rt.alloc())?, Shape::Number(1));
+    Ok(())
+}
+
+// A term of 16 bits that is compared with a number.
+#[derive(Clone, Copy, Debug)]
+enum Made {
+    Word,
+    Sum,
+    Zeros,
+    Signs,
+    Choice,
+    Pair,
+}
+
+fn made_of(t: &mut Terms, which: Made) -> Result<TermId, AllocError>
+    ensures within { IfOk result (λ r. r < length t.new) }
+    ensures width { IfOk result (λ r. width t.new r ≡ 16) }
+{
+    match which {
+        Made::Word => variable(t, 16, 1),
+        Made::Sum => three_more(t),
+        Made::Zeros => extended_byte(t, false),
+        Made::Signs => extended_byte(t, true),
+        Made::Choice => five_or_nine(t),
+        Made::Pair => two_bytes(t),
+    }
+}
+
+fn three_more(t: &mut Terms) -> Result<TermId, AllocError>
+    ensures within { IfOk result (λ r. r < length t.new) }
+    ensures width { IfOk result (λ r. width t.new r ≡ 16) }
+{
+    let x = variable(t, 16, 1)?;
+    let three = constant(t, 16, 3)?;
+    let sum = add(t, x, three)?;
+    Ok(sum)
+}
+
+fn extended_byte(t: &mut Terms, signed: bool) -> Result<TermId, AllocError>
+    ensures within { IfOk result (λ r. r < length t.new) }
+    ensures width { IfOk result (λ r. width t.new r ≡ 16) }
+{
+    let x = variable(t, 8, 1)?;
+    let long = extend(t, signed, 16, x)?;
+    Ok(long)
+}
+
+fn five_or_nine(t: &mut Terms) -> Result<TermId, AllocError>
+    ensures within { IfOk result (λ r. r < length t.new) }
+    ensures width { IfOk result (λ r. width t.new r ≡ 16) }
+{
+    let condition = variable(t, 1, 7)?;
+    let five = constant(t, 16, 5)?;
+    let nine = constant(t, 16, 9)?;
+    let choice = choose(t, condition, five, nine)?;
+    Ok(choice)
+}
+
+fn two_bytes(t: &mut Terms) -> Result<TermId, AllocError>
+    ensures within { IfOk result (λ r. r < length t.new) }
+    ensures width { IfOk result (λ r. width t.new r ≡ 16) }
+{
+    let x = variable(t, 8, 1)?;
+    let y = variable(t, 8, 2)?;
+    let both = concat(t, x, y)?;
+    Ok(both)
+}
+
+// What an operation on a term and a number gives: an operation with a number, or another term.
+#[derive(Clone, Copy, Debug, PartialEq)]
+enum Outcome {
+    With(TermKind, u64),
+    Is(Shape),
+}
+
+fn given(alloc: Global, which: Made, kind: TermKind, n: u64) -> Result<Outcome, AllocError>
+    requires { n < 2 ^ 16 }
+{
+    let mut t = Terms::new(alloc);
+    let a = made_of(&mut t, which)?;
+    let b = constant(&mut t, 16, n)?;
+    let r = build(&mut t, kind, a, b)?;
+    Ok(seen(&t, r))
+}
+
+fn seen(t: &Terms, a: TermId) -> Outcome
+    requires { a < length t.now }
+{
+    match t.node(a) {
+        Node::Binary { kind, b, .. } => with(t, *kind, a, *b),
+        _ => Outcome::Is(shape_of(t, a)),
+    }
+}
+
+fn with(t: &Terms, kind: TermKind, a: TermId, b: TermId) -> Outcome
+    requires first { a < length t.now }
+    requires second { b < length t.now }
+{
+    match value_of(t, b) {
+        Some(n) => Outcome::With(kind, n),
+        None => Outcome::Is(shape_of(t, a)),
+    }
+}
+
+#[test]
+fn operations_with_numbers_are_simplified(rt: HostRuntime) -> Result<(), AllocError> {
+    use Outcome::{Is, With};
+    let rows = [
+        (Made::Word, TermKind::Udiv, 16, With(TermKind::Lshr, 4)),
+        (Made::Word, TermKind::Udiv, 12, With(TermKind::Udiv, 12)),
+        (Made::Word, TermKind::Urem, 16, With(TermKind::And, 15)),
+        (Made::Word, TermKind::Ashr, 16, With(TermKind::Ashr, 15)),
+        (Made::Word, TermKind::Sub, 3, With(TermKind::Add, 65533)),
+        (Made::Sum, TermKind::Add, 4, With(TermKind::Add, 7)),
+        (Made::Sum, TermKind::Sub, 3, Is(Shape::Variable(1))),
+        (Made::Sum, TermKind::Eq, 10, With(TermKind::Eq, 7)),
+        (Made::Zeros, TermKind::Eq, 200, With(TermKind::Eq, 200)),
+        (Made::Zeros, TermKind::Eq, 300, Is(Shape::Number(0))),
+        (Made::Zeros, TermKind::Ult, 100, With(TermKind::Ult, 100)),
+        (Made::Zeros, TermKind::Ult, 256, Is(Shape::Number(1))),
+        (Made::Signs, TermKind::Eq, 65408, With(TermKind::Eq, 128)),
+        (Made::Signs, TermKind::Eq, 128, Is(Shape::Number(0))),
+        (Made::Signs, TermKind::Ult, 300, With(TermKind::Ult, 128)),
+        (Made::Signs, TermKind::Ult, 65416, With(TermKind::Ult, 136)),
+        (Made::Choice, TermKind::Eq, 5, Is(Shape::Variable(7))),
+        (Made::Choice, TermKind::Eq, 7, Is(Shape::Number(0))),
+        (Made::Pair, TermKind::Eq, 4660, Is(Shape::Pair(5, 7))),
+    ];
+    for (which, kind, n, answer) in rows {
+        assert!(rt; n < 65536);
+        assert_eq!(rt;
+            given(rt.alloc(), which, kind, n)?,
+            answer,
+            "{which:?} {kind:?} {n}"
+        );
+    }
+    Ok(())
+}
+
+// The address of a field in an array of structs of 24 bytes, at a constant index or a variable one.
+fn address(t: &mut Terms, index: Option<u64>, field: u64) -> Result<TermId, AllocError>
+    ensures within { IfOk result (λ r. r < length t.new) }
+    ensures width { IfOk result (λ r. width t.new r ≡ 64) }
+    ensures keeps_widths { (k : ℕ) → k < length t.old → width t.new k ≡ width t.old k }
+    ensures longer { length t.old ≤ length t.new }
+{
+    let base = variable(t, 64, 1)?;
+    let i = index_term(t, index)?;
+    let size = constant(t, 64, 24)?;
+    let offset = mul(t, size, i)?;
+    let element = add(t, base, offset)?;
+    field_of(t, element, field)
+}
+
+fn field_of(t: &mut Terms, element: TermId, field: u64) -> Result<TermId, AllocError>
+    requires term { element < length t.old }
+    requires word { width t.old element ≡ 64 }
+    ensures within { IfOk result (λ r. r < length t.new) }
+    ensures width { IfOk result (λ r. width t.new r ≡ 64) }
+    ensures keeps_widths { (k : ℕ) → k < length t.old → width t.new k ≡ width t.old k }
+    ensures longer { length t.old ≤ length t.new }
+{
+    let by = constant(t, 64, field)?;
+    let place = add(t, element, by)?;
+    Ok(place)
+}
+
+fn index_term(t: &mut Terms, index: Option<u64>) -> Result<TermId, AllocError>
+    ensures within { IfOk result (λ r. r < length t.new) }
+    ensures width { IfOk result (λ r. width t.new r ≡ 64) }
+    ensures keeps_widths { (k : ℕ) → k < length t.old → width t.new k ≡ width t.old k }
+    ensures longer { length t.old ≤ length t.new }
+{
+    match index {
+        Some(i) => constant(t, 64, i),
+        None => variable(t, 64, 2),
+    }
+}
+
+// Whether two addresses are equal, and how far the first is behind the second.
+fn addresses(
+    alloc: Global,
+    first: (Option<u64>, u64),
+    second: (Option<u64>, u64),
+) -> Result<(Shape, Shape), AllocError> {
+    let mut t = Terms::new(alloc);
+    let a = address(&mut t, first.0, first.1)?;
+    let b = address(&mut t, second.0, second.1)?;
+    let same = eq(&mut t, a, b)?;
+    let apart = sub(&mut t, a, b)?;
+    Ok((shape_of(&t, same), shape_of(&t, apart)))
+}
+
+#[test]
+fn addresses_from_one_base_compare_to_constants(rt: HostRuntime) -> Result<(), AllocError> {
+    let rows = [
+        ((Some(2), 8), (Some(1), 8), 0, 24),
+        ((Some(1), 8), (Some(0), 32), 1, 0),
+        ((None, 12), (None, 8), 0, 4),
+        ((None, 8), (None, 8), 1, 0),
+    ];
+    for (first, second, same, apart) in rows {
+        assert_eq!(rt;
+            addresses(rt.alloc(), first, second)?,
+            (Shape::Number(same), Shape::Number(apart)),
+            "{first:?} {second:?}"
+        );
+    }
     Ok(())
 }

@@ -1,14 +1,15 @@
 //! Shifts. The second term tells by how many bits.
 
-ghost use Rattle.std.specs.Prelude.{◌≡◌, ℕ, ◌<◌, ◌≤◌, length, IfOk};
+ghost use Rattle.std.specs.Prelude.{◌≡◌, ℕ, ◌-◌, ◌<◌, ◌≤◌, length, IfOk};
 ghost use Rattle.hk_term.specs.Operations.{unary_value, binary_value};
 ghost use Rattle.hk_term.specs.Shape.{width, Grows};
 ghost use Rattle.hk_term.specs.Meaning.{Reading, value};
+ghost use Rattle.hk_simplify.specs.Adding.{Adds};
 ghost use Rattle.hk_simplify.specs.Forms.{FormFits, form_width, form_value};
 
-use crate::constants::{is_at_least, is_number, number};
+use crate::constants::{is_at_least, is_number, number, sized};
 use crate::form::{Form, make};
-use crate::plain::binary;
+use crate::plain::{binary, binary_number};
 use hk_term::{TermId, TermKind, Terms};
 use std::alloc::AllocError;
 
@@ -24,6 +25,7 @@ pub fn shl(t: &mut Terms, a: TermId, b: TermId) -> Result<TermId, AllocError>
     ensures keeps_values { (k : ℕ) → k < length t.old → (v : Reading) → value t.new k v ≡ value t.old k v }
     ensures longer { length t.old ≤ length t.new }
     ensures grows { Grows t.old t.new }
+    ensures adds { Adds 2 t.old t.new }
 {
     let form = shl_form(t, a, b);
     let made = make(t, form)?;
@@ -65,6 +67,7 @@ pub fn lshr(t: &mut Terms, a: TermId, b: TermId) -> Result<TermId, AllocError>
     ensures keeps_values { (k : ℕ) → k < length t.old → (v : Reading) → value t.new k v ≡ value t.old k v }
     ensures longer { length t.old ≤ length t.new }
     ensures grows { Grows t.old t.new }
+    ensures adds { Adds 2 t.old t.new }
 {
     let form = lshr_form(t, a, b);
     let made = make(t, form)?;
@@ -106,6 +109,7 @@ pub fn ashr(t: &mut Terms, a: TermId, b: TermId) -> Result<TermId, AllocError>
     ensures keeps_values { (k : ℕ) → k < length t.old → (v : Reading) → value t.new k v ≡ value t.old k v }
     ensures longer { length t.old ≤ length t.new }
     ensures grows { Grows t.old t.new }
+    ensures adds { Adds 2 t.old t.new }
 {
     let form = ashr_form(t, a, b);
     let made = make(t, form)?;
@@ -122,11 +126,30 @@ fn ashr_form(t: &Terms, a: TermId, b: TermId) -> Form
 {
     let zero_a = is_number(t, a, 0);
     let zero_b = is_number(t, b, 0);
+    let w = sized(t, a);
+    let beyond = is_at_least(t, b, w);
     if zero_a {
         Form::Old(a)
     } else if zero_b {
         Form::Old(a)
+    } else if beyond {
+        signs(t, a)
     } else {
         binary(t, TermKind::Ashr, a, b)
+    }
+}
+
+// Copies of a term's sign: the term shifted to the right by all bits but one.
+fn signs(t: &Terms, a: TermId) -> Form
+    requires { a < length t.now }
+    ensures fits { FormFits t.now result }
+    ensures width { form_width t.now result ≡ width t.now a }
+    ensures value { (v : Reading) → form_value t.now result v ≡ binary_value TermKind.Ashr (width t.now a) (width t.now a) (value t.now a v) (width t.now a - 1) }
+{
+    let w = sized(t, a);
+    if w == 1 {
+        Form::Old(a)
+    } else {
+        binary_number(t, TermKind::Ashr, a, u64::from(w - 1))
     }
 }

@@ -4,10 +4,11 @@ ghost use Rattle.std.specs.Prelude.{◌≡◌, ℕ, suc, ◌+◌, ◌-◌, ◌/�
 ghost use Rattle.hk_term.specs.Operations.{binary_value, resize_value, ResizeFits};
 ghost use Rattle.hk_term.specs.Shape.{IsWidth, width, Grows};
 ghost use Rattle.hk_term.specs.Meaning.{Reading, value};
+ghost use Rattle.hk_simplify.specs.Adding.{Adds};
 ghost use Rattle.hk_simplify.specs.Forms.{FormFits, form_width, form_value};
 
 use crate::constants::{is_number, number, sized};
-use crate::form::{Form, make};
+use crate::form::{Form, Outer, make};
 use crate::plain::{binary, resized};
 use hk_term::{Node, TermId, TermKind, TermResize, Terms};
 use std::alloc::AllocError;
@@ -24,6 +25,7 @@ pub fn zero_extend(t: &mut Terms, to: u32, a: TermId) -> Result<TermId, AllocErr
     ensures keeps_values { (k : ℕ) → k < length t.old → (v : Reading) → value t.new k v ≡ value t.old k v }
     ensures longer { length t.old ≤ length t.new }
     ensures grows { Grows t.old t.new }
+    ensures adds { Adds 2 t.old t.new }
 {
     let form = zero_extend_form(t, to, a);
     let made = make(t, form)?;
@@ -63,6 +65,7 @@ pub fn sign_extend(t: &mut Terms, to: u32, a: TermId) -> Result<TermId, AllocErr
     ensures keeps_values { (k : ℕ) → k < length t.old → (v : Reading) → value t.new k v ≡ value t.old k v }
     ensures longer { length t.old ≤ length t.new }
     ensures grows { Grows t.old t.new }
+    ensures adds { Adds 2 t.old t.new }
 {
     let form = sign_extend_form(t, to, a);
     let made = make(t, form)?;
@@ -119,6 +122,7 @@ pub fn extract(t: &mut Terms, high: u32, low: u32, a: TermId) -> Result<TermId, 
     ensures keeps_values { (k : ℕ) → k < length t.old → (v : Reading) → value t.new k v ≡ value t.old k v }
     ensures longer { length t.old ≤ length t.new }
     ensures grows { Grows t.old t.new }
+    ensures adds { Adds 2 t.old t.new }
 {
     let form = extract_form(t, high, low, a);
     let made = make(t, form)?;
@@ -187,19 +191,48 @@ fn extract_from(t: &Terms, to: u32, low: u32, a: TermId, kind: TermResize, x: Te
         TermResize::Zero if u <= low => number(to, 0),
         TermResize::Zero if low == 0 && u <= to => zero_extend_form(t, to, x),
         TermResize::Sign if low == 0 && u <= to => sign_extend_form(t, to, x),
+        TermResize::Zero if u < low + to => part_of_extension(TermResize::Zero, to, low, x, u),
+        TermResize::Sign if u < low + to => {
+            part_of_extension(TermResize::Sign, to, first_bit(to, low, u), x, u)
+        }
         _ => resized(t, TermResize::Extract { low }, to, a),
     }
 }
 
+// The first bit of a number of width u that bits of its extension hold: of bits above it that is its sign.
+fn first_bit(to: u32, low: u32, u: u32) -> u32
+    requires some { 1 ≤ u }
+    requires part { 1 ≤ to }
+    requires across { u < low + to }
+    ensures within { result < u }
+    ensures narrower { u - result ≤ to }
+    ensures first { ((result ≡ low) × (low < u)) ⊎ ((result ≡ u - 1) × (u - 1 ≤ low)) }
+{
+    if low < u { low } else { u - 1 }
+}
+
+// The bits of a term of width u from `low` on, extended.
+fn part_of_extension(kind: TermResize, to: u32, low: u32, x: TermId, u: u32) -> Form
+    requires { low < u }
+    ensures { result ≡ Form.Over (Node.Resize (TermResize.Extract low) (u - low) x) (Outer.Resized kind to) }
+{
+    let part = Node::Resize {
+        kind: TermResize::Extract { low },
+        to: u - low,
+        a: x,
+    };
+    Form::Over(part, Outer::Resized(kind, to))
+}
+
 // How a term was made of one at another width.
 #[derive(Clone, Copy, Debug)]
-struct Resize {
-    kind: TermResize,
-    of: TermId,
+pub(crate) struct Resize {
+    pub(crate) kind: TermResize,
+    pub(crate) of: TermId,
 }
 
 // How a term was made of one at another width, where it was.
-fn resize_of(t: &Terms, a: TermId) -> Option<Resize>
+pub(crate) fn resize_of(t: &Terms, a: TermId) -> Option<Resize>
     requires { a < length t.now }
     ensures earlier { IfSome result (λ r. r.of < a) }
     ensures fits { IfSome result (λ r. ResizeFits r.kind (width t.now r.of) (width t.now a)) }
@@ -331,6 +364,7 @@ pub fn concat(t: &mut Terms, a: TermId, b: TermId) -> Result<TermId, AllocError>
     ensures keeps_values { (k : ℕ) → k < length t.old → (v : Reading) → value t.new k v ≡ value t.old k v }
     ensures longer { length t.old ≤ length t.new }
     ensures grows { Grows t.old t.new }
+    ensures adds { Adds 2 t.old t.new }
 {
     let form = concat_form(t, a, b);
     let made = make(t, form)?;

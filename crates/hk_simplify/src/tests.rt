@@ -317,7 +317,7 @@ const QUOTIENTS: [Rule; 6] = [
     ),
 ];
 
-const SHIFTS: [Rule; 11] = [
+const SHIFTS: [Rule; 10] = [
     (TermKind::Shl, Arg::X, Arg::Zero, Seen::Term(Arg::X)),
     (TermKind::Shl, Arg::Zero, Arg::X, Seen::Term(Arg::Zero)),
     (TermKind::Shl, Arg::X, Arg::Ones, Seen::Term(Arg::Zero)),
@@ -338,12 +338,6 @@ const SHIFTS: [Rule; 11] = [
     ),
     (TermKind::Ashr, Arg::X, Arg::Zero, Seen::Term(Arg::X)),
     (TermKind::Ashr, Arg::Zero, Arg::X, Seen::Term(Arg::Zero)),
-    (
-        TermKind::Ashr,
-        Arg::X,
-        Arg::Ones,
-        Seen::Binary(TermKind::Ashr, Arg::X, Arg::Ones),
-    ),
 ];
 
 const MEETS: [Rule; 10] = [
@@ -522,7 +516,12 @@ fn unary_of_x(t: &mut Terms, w: u32, kind: UnaryKind) -> Result<TermId, AllocErr
 }
 
 // The term of an operation on two terms of one width.
-fn build(t: &mut Terms, kind: TermKind, a: TermId, b: TermId) -> Result<TermId, AllocError>
+pub(crate) fn build(
+    t: &mut Terms,
+    kind: TermKind,
+    a: TermId,
+    b: TermId,
+) -> Result<TermId, AllocError>
     requires first { a < length t.old }
     requires second { b < length t.old }
     requires widths { width t.old a ≡ width t.old b }

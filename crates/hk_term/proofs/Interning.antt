@@ -1,14 +1,16 @@
 -- What is known after a node was put into the list.
-use Rattle.std.proofs.Common.{◌≡◌, ℕ, zero, suc, ◌<◌, ◌≤◌, ◌++◌, ◌⊎◌, List, [], ◌∷◌, length, reverse, Some, arith, refl, sym, ◌∙◌, ap, subst, inl, inr}
+use Rattle.std.proofs.Common.{◌≡◌, ℕ, zero, suc, ◌+◌, ◌<◌, ◌≤◌, ◌++◌, ◌⊎◌, Bool, true, false, cond, List, [], ◌∷◌, length, reverse, Some, arith, refl, sym, ◌∙◌, ap, subst, inl, inr}
 use Rattle.std.specs.Prelude.{option_map}
 use Rattle.std.specs.List.{slice_get}
 use Rattle.std.specs.Map.{keys_of}
 use Rattle.std.proofs.lemmas.Bool.{cases_lt}
 use Rattle.std.proofs.lemmas.List.{length-append, length-reverse, append-nil}
+use Rattle.std.proofs.lemmas.List.Elements.{filter-append}
 use Rattle.std.proofs.lemmas.Option.{slice_get_within}
 use Rattle.hk_term.specs.declared.node.Node.{Node}
 use Rattle.hk_term.specs.Shape.{width, node_width, NodeFits, AllFitIn, Grows}
 use Rattle.hk_term.specs.Meaning.{Reading, value, node_value}
+use Rattle.hk_term.specs.Inputs.{is_input, inputs_in}
 use Rattle.hk_term.specs.Facts.{Holds}
 use Rattle.hk_term.specs.Kept.{IsTermTable, IsPlaced}
 use Rattle.hk_term.proofs.TableLemmas.{key_at, length-keys_of, node_known, width_known}
@@ -47,6 +49,26 @@ grown-values old new n i (inr p) = λ k h v. ap (λ l. value l k v) p.1 ∙ valu
 pub grown-nodes : (old new : List Node) (n : Node) (i : ℕ) → IsGrown old new n i → (k : ℕ) → k < length old → slice_get new k ≡ slice_get old k
 grown-nodes old new n i (inl p) = λ k h. ap (λ l. slice_get l k) p.1
 grown-nodes old new n i (inr p) = λ k h. ap (λ l. slice_get l k) p.1 ∙ slice_get-append old (n ∷ []) k h
+
+-- the inputs of the list: no others behind a node that is none, and at most one more
+pub grown-few : (old new : List Node) (n : Node) (i : ℕ) → IsGrown old new n i → length new ≤ length old + 1
+grown-few old new n i (inl p) = omega (arith, ap length p.1)
+grown-few old new n i (inr p) = omega (arith, ap length p.1, length-append old (n ∷ []))
+
+inputs-push : (old : List Node) (n : Node) (b : Bool) → is_input n ≡ b → inputs_in (old ++ n ∷ []) ≡ inputs_in old ++ cond b (n ∷ []) []
+inputs-push old n b e = filter-append is_input old (n ∷ []) ∙ ap (λ c. inputs_in old ++ cond c (n ∷ []) []) e
+
+pub grown-operation : (old new : List Node) (n : Node) (i : ℕ) → IsGrown old new n i → is_input n ≡ false → inputs_in new ≡ inputs_in old
+grown-operation old new n i (inl p) e = ap inputs_in p.1
+grown-operation old new n i (inr p) e = ap inputs_in p.1 ∙ inputs-push old n false e ∙ append-nil (inputs_in old)
+
+inputs_most : (old : List Node) (n : Node) (b : Bool) → is_input n ≡ b → length (inputs_in (old ++ n ∷ [])) ≤ length (inputs_in old) + 1
+inputs_most old n true e = omega (arith, ap length (inputs-push old n true e), length-append (inputs_in old) (n ∷ []))
+inputs_most old n false e = omega (arith, ap length (inputs-push old n false e ∙ append-nil (inputs_in old)))
+
+pub grown-inputs : (old new : List Node) (n : Node) (i : ℕ) → IsGrown old new n i → length (inputs_in new) ≤ length (inputs_in old) + 1
+grown-inputs old new n i (inl p) = omega (arith, ap (λ l. length (inputs_in l)) p.1)
+grown-inputs old new n i (inr p) = omega (arith, ap (λ l. length (inputs_in l)) p.1, inputs_most old n (is_input n) refl)
 
 -- the value and the width of its node, over the list before
 pub grown-value : (old new : List Node) (n : Node) (i : ℕ) → IsGrown old new n i → NodeFits (length old) (width old) n → Holds new i n → (v : Reading) → value new i v ≡ node_value n (value old) (width old) v

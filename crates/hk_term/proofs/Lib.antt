@@ -1,5 +1,6 @@
 pub mod Insertion
 pub mod Interning
+pub mod KeptNumbers
 pub mod KindLemmas
 pub mod Prefixes
 pub mod QuantifierLemmas

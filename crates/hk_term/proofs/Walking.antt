@@ -6,7 +6,7 @@ use Rattle.std.proofs.lemmas.Bool.{eqb-true, eq-eqb, ne_eqb}
 use Rattle.std.proofs.lemmas.Bool.Decides.{eqb_tells}
 use Rattle.hk_term.specs.declared.node.Node.{Node}
 use Rattle.hk_term.specs.Meaning.{Reading, value}
-use Rattle.hk_term.specs.Walk.{IsTimed, IsFresh, Keeps, Path, top, up, Standing, weight}
+use Rattle.hk_term.specs.Walk.{Known, IsTimed, Keeps, Path, top, up, Standing, weight}
 
 -- ---- one write
 
@@ -109,18 +109,18 @@ done_more w w' t at at' h l =
 -- ---- the first step: t waits for its parts
 
 module _ (nodes : List Node) (r : Reading) (stamp t : ℕ) (some : 1 ≤ stamp) (vs ms vs' ms' : List ℕ) where
-  pub start-standing : (clock : ℕ) → IsFresh ms stamp → IsTimed ms clock → stamp ≤ clock → Wrote vs t t vs' → Wrote ms t 0 ms' → Standing nodes r stamp t vs' ms' clock t
-  start-standing clock fresh timed past number mark = record {
+  pub start-standing : (clock : ℕ) → Known nodes r stamp vs ms → IsTimed ms clock → stamp ≤ clock → Wrote vs t t vs' → Wrote ms t 0 ms' → Standing nodes r stamp t vs' ms' clock t
+  start-standing clock known timed past number mark = record {
     at_most = omega arith;
-    known = λ k d. absurd (not_done k (at_or k t) d);
+    known = λ k d. still k (at_or k t) d;
     stands = inr (top t refl (mark.there t refl) (number.there t refl));
     timed = λ k. in_time k (at_or k t);
     past = past;
   }
     where
-      not_done : (k : ℕ) → (k ≡ t) ⊎ (k ≢ t) → slice_index ms' k ≡ stamp → ⊥
-      not_done k (inl e) d = let zero_mark = mark.there k e in omega arith
-      not_done k (inr ne) d = fresh k (sym (mark.elsewhere k ne) ∙ d)
+      still : (k : ℕ) → (k ≡ t) ⊎ (k ≢ t) → slice_index ms' k ≡ stamp → slice_index vs' k ≡ value nodes k r
+      still k (inl e) d = absurd (let zero_mark = mark.there k e in omega arith)
+      still k (inr ne) d = number.elsewhere k ne ∙ known k (sym (mark.elsewhere k ne) ∙ d)
 
       in_time : (k : ℕ) → (k ≡ t) ⊎ (k ≢ t) → slice_index ms' k ≤ clock
       in_time k (inl e) = let zero_mark = mark.there k e in omega arith

@@ -2,8 +2,10 @@ pub mod Operations
 pub mod Shape
 pub mod Meaning
 pub mod Facts
+pub mod Inputs
 pub mod Tables
 pub mod Same
 pub mod Kept
 pub mod Scoped
 pub mod Walk
+pub mod Room

@@ -8,6 +8,7 @@
 mod bounds;
 mod node;
 mod operations;
+mod room;
 mod scope;
 mod terms;
 mod valuation;
@@ -16,6 +17,7 @@ mod walk;
 pub use bounds::{Bound, BoundList};
 pub use node::{Node, TermId, TermKind, TermResize, UnaryKind};
 pub use operations::{apply_binary, apply_resize, apply_unary};
+pub use room::ValueRoom;
 pub use terms::Terms;
 pub use valuation::{ArrayTable, NumberTable, Valuation};
 

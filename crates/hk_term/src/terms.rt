@@ -1,14 +1,17 @@
 //! The list of nodes.
 
-ghost use Rattle.std.specs.Prelude.{◌≡◌, ℕ, ◌+◌, ◌*◌, ◌^◌, ◌<◌, ◌≤◌, ◌++◌, ◌∷◌, ◌⊎◌, [], length, take, slice_get, Some, IfOk, OnErr, Contains};
+ghost use Rattle.std.specs.Prelude.{◌≡◌, ℕ, ◌+◌, ◌*◌, ◌^◌, ◌<◌, ◌≤◌, ◌++◌, ◌∷◌, ◌⊎◌, [], false, length, reverse, take, slice_get, Some, IfOk, OnErr, Contains};
 ghost use Rattle.indexmap.specs.IndexMap.{keys};
 ghost use Rattle.hk_term.specs.Operations.{binary_width};
-ghost use Rattle.hk_term.specs.Shape.{NodeFits, IsWidth, width, IsDistinct, Grows, node_width};
+ghost use Rattle.hk_term.specs.Shape.{AllFitIn, NodeFits, IsWidth, width, IsDistinct, Grows, node_width};
 ghost use Rattle.hk_term.specs.Meaning.{Reading, value, reading_of, node_value};
 ghost use Rattle.hk_term.specs.Facts.{Holds};
+ghost use Rattle.hk_term.specs.Inputs.{is_input, inputs_in};
 ghost use Rattle.hk_term.specs.Kept.{IsPlaced};
+ghost use Rattle.hk_term.specs.Room.{IsFor};
 
 use crate::node::{Node, TermId, TermKind};
+use crate::room::ValueRoom;
 use crate::scope::Scope;
 use crate::valuation::Valuation;
 use crate::walk::compute;
@@ -50,6 +53,7 @@ impl Terms {
         ensures len { result ≡ length self.now }
         ensures small { length self.now < 2 ^ 63 }
         ensures distinct { IsDistinct self.now }
+        ensures fit { AllFitIn (reverse self.now) }
     {
         self.nodes.len() as u64
     }
@@ -87,6 +91,9 @@ impl Terms {
         ensures grows { Grows self.old self.new }
         ensures ok { IfOk result (λ t. ((t < length self.old) × (self.new ≡ self.old)) ⊎ ((t ≡ length self.old) × (self.new ≡ self.old ++ node ∷ []))) }
         ensures there { Contains self.old node → self.new ≡ self.old }
+        ensures few { length self.new ≤ length self.old + 1 }
+        ensures operation { is_input node ≡ false → inputs_in self.new ≡ inputs_in self.old }
+        ensures inputs { length (inputs_in self.new) ≤ length (inputs_in self.old) + 1 }
         ensures err { OnErr result (self.new ≡ self.old) }
     {
         let width = self.width_of(&node);
@@ -128,6 +135,19 @@ impl Terms {
             &mut clock,
             1,
         )
+    }
+
+    /// The value of a term under a valuation, by a room that is for this list and this valuation. What the room knows is not
+    /// computed again, so many terms take the time of what they reach together. It takes no memory.
+    pub fn value_with(&self, v: &Valuation, t: TermId, room: &mut ValueRoom) -> u64
+        requires term { t < length self.now }
+        requires room { IsFor self.now (reading_of v.now) room.old }
+        ensures value { result ≡ value self.now t (reading_of v.now) }
+        ensures below { result < 2 ^ width self.now t }
+        ensures room { IsFor self.now (reading_of v.now) room.new }
+    {
+        self.values_are_below();
+        room.number(self, v, t)
     }
 
     // Every value is a number of its term's width. The call does nothing: its contract is a law of the list.

@@ -3,8 +3,12 @@
 ghost use Rattle.std.specs.Prelude.{◌≡◌, ◌^◌, ◌<◌, length, IfOk};
 ghost use Rattle.hk_term.specs.Operations.{BinaryFits, ResizeFits};
 ghost use Rattle.hk_term.specs.Shape.{IsWidth, width};
+ghost use Rattle.hk_term.specs.Meaning.{reading_of};
+ghost use Rattle.hk_term.specs.Room.{IsFor};
 
-use crate::{Bound, BoundList, Node, TermId, TermKind, TermResize, Terms, UnaryKind, Valuation};
+use crate::{
+    Bound, BoundList, Node, TermId, TermKind, TermResize, Terms, UnaryKind, Valuation, ValueRoom,
+};
 use std::alloc::{AllocError, Global};
 use std::test::Fail;
 
@@ -686,6 +690,50 @@ fn a_cut_list_grows_again(rt: HostRuntime) -> Result<(), Fail> {
     assert_eq!(rt; t, cut_off);
     let v = Valuation::new(alloc);
     assert_eq!(rt; value(alloc, &terms, &v, t)?, 2);
+    Ok(())
+}
+
+// The values of a term and of one of its parts, by one room.
+fn two_values(
+    terms: &Terms,
+    v: &Valuation,
+    room: &mut ValueRoom,
+    t: TermId,
+    part: TermId,
+) -> [u64; 2]
+    requires first { t < length terms.now }
+    requires second { part < length terms.now }
+    requires room { IsFor terms.now (reading_of v.now) room.old }
+    ensures room { IsFor terms.now (reading_of v.now) room.new }
+{
+    let whole = terms.value_with(v, t, room);
+    [whole, terms.value_with(v, part, room)]
+}
+
+#[test]
+fn a_room_serves_many_terms_and_valuations(rt: HostRuntime) -> Result<(), Fail> {
+    let alloc = rt.alloc();
+    let mut terms = Terms::new(alloc);
+    let x = terms.intern(Node::Var { width: 8, id: 0 })?;
+    let nested = nested(alloc, &mut terms)?;
+    assert!(rt; x.place() < terms.len());
+    let mut room = ValueRoom::new(alloc, &terms)?;
+    let mut v = two_variables(alloc, 200, 0)?;
+    v.arrays.set(7, 1, 1)?;
+    v.arrays.set(7, 2, 2)?;
+    assert_eq!(rt; two_values(&terms, &v, &mut room, nested, x), [1, 200]);
+    let longer = terms.intern(Node::Unary {
+        kind: UnaryKind::Neg,
+        a: x,
+    })?;
+    room.fit(&terms)?;
+    assert_eq!(rt; two_values(&terms, &v, &mut room, longer, x), [56, 200]);
+    let other = two_variables(alloc, 3, 0)?;
+    room.begin();
+    assert_eq!(rt;
+        two_values(&terms, &other, &mut room, nested, longer),
+        [0, 253]
+    );
     Ok(())
 }
 

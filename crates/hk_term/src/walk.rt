@@ -121,7 +121,7 @@ fn forget(marks: &mut [u64], base: u64)
 }
 
 // A stamp above a base that no mark has. Where the stamps up to the last are used up, all marks above the base are taken back.
-fn fresh_stamp(marks: &mut [u64], clock: &mut u64, base: u64, last: u64) -> u64
+pub(crate) fn fresh_stamp(marks: &mut [u64], clock: &mut u64, base: u64, last: u64) -> u64
     requires timed { IsTimed marks.old clock.old }
     requires past { base ≤ clock.old }
     requires room { base < last }
@@ -141,7 +141,7 @@ fn fresh_stamp(marks: &mut [u64], clock: &mut u64, base: u64, last: u64) -> u64
     *clock
 }
 
-// The value of a term under a reading for which no term is done. Only what the term reaches is computed.
+// The value of a term under a reading. What is done has its number; of the rest only what the term reaches is computed.
 #[cycle(walk)]
 pub(crate) fn compute(
     terms: &Terms,
@@ -158,10 +158,11 @@ pub(crate) fn compute(
     requires marks { t < length marks.old }
     requires some { 1 ≤ stamp }
     requires later { stamp + t < 2 ^ 64 }
-    requires fresh { IsFresh marks.old stamp }
+    requires known { Known terms.now (scoped (reading_of v.now) scope.now) stamp values.old marks.old }
     requires timed { IsTimed marks.old clock.old }
     requires past { stamp ≤ clock.old }
     ensures value { result ≡ value terms.now t (scoped (reading_of v.now) scope.now) }
+    ensures known { Known terms.now (scoped (reading_of v.now) scope.now) stamp values.new marks.new }
     ensures keeps { Keeps (t + 1) (stamp - 1) values.old marks.old values.new marks.new }
     ensures timed { IsTimed marks.new clock.new }
     ensures past { stamp ≤ clock.new }

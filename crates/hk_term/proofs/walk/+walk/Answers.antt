@@ -12,7 +12,7 @@ compute-going-init t c =
     let r = scoped (reading_of c.args.v.now) c.args.scope.now in
     let number = wrote c.args.values.now c.args.t c.args.t (omega arith) in
     let mark = wrote c.args.marks.now c.args.t 0 (omega arith) in (
-      start-standing c.args.terms.now r c.args.stamp c.args.t c.requires.some c.args.values.now c.args.marks.now _ _ c.args.clock.now c.requires.fresh c.requires.timed c.requires.past number mark,
+      start-standing c.args.terms.now r c.args.stamp c.args.t c.requires.some c.args.values.now c.args.marks.now _ _ c.args.clock.now c.requires.known c.requires.timed c.requires.past number mark,
       write-keeps c.args.terms.now r c.args.stamp c.args.t c.requires.some c.args.values.now c.args.marks.now _ _ c.args.t c.args.t (omega arith) number mark,
     )
 

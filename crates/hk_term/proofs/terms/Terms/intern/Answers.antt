@@ -1,5 +1,5 @@
 use Rattle.std.specs.Map.{keys_of}
-use Rattle.hk_term.proofs.Interning.{known_over, table_over, Interned, interned, grown-value, grown-width, grown-widths, grown-values, grown-nodes}
+use Rattle.hk_term.proofs.Interning.{known_over, table_over, Interned, interned, grown-value, grown-width, grown-widths, grown-values, grown-nodes, grown-few, grown-operation, grown-inputs}
 use Rattle.hk_term.proofs.terms.Terms.intern.Goals as goal
 
 pub place-requires : goal.place-requires
@@ -34,3 +34,12 @@ returns-clause-keeps_nodes c = grown-nodes _ _ _ _ (done c).grown
 
 pub returns-clause-ok : goal.returns-clause-ok
 returns-clause-ok c = (done c).grown
+
+pub returns-clause-few : goal.returns-clause-few
+returns-clause-few c = grown-few _ _ _ _ (done c).grown
+
+pub returns-clause-operation : goal.returns-clause-operation
+returns-clause-operation c = grown-operation _ _ _ _ (done c).grown
+
+pub returns-clause-inputs : goal.returns-clause-inputs
+returns-clause-inputs c = grown-inputs _ _ _ _ (done c).grown
