@@ -87,7 +87,7 @@ names_there (x ∷ xs) front rest (others, name, are, parts) =
     ap (λ f. names_at (f ++ rest)) parts
     ∙ goes {A = Text} {B = List Text} (name_at (x ∷ (others ++ rest))) (λ x r. after (more_names_at (length r) r) (λ xs r. Some (x ∷ xs, r))) x (others ++ rest) (name_there x (others ++ rest) name)
     ∙ goes {A = List Text} {B = List Text} (more_names_at (length (others ++ rest)) (others ++ rest)) (λ xs r. Some (x ∷ xs, r)) xs rest
-      (more_names_there xs others rest (length (others ++ rest)) are (omega (arith, length-append others rest)))
+    (more_names_there xs others rest (length (others ++ rest)) are (omega (arith, length-append others rest)))
 
 bound_there : (xs : List Text) (front rest : List Text) → SpellsBound xs front → bound_at (front ++ rest) ≡ Some (xs, rest)
 bound_there xs front rest (names, are, parts) =
@@ -114,7 +114,7 @@ head_there (resized (SignExt n)) front rest (text, is, parts) =
 head_there (resized (Extract high low)) front rest (hi, lo, is_high, is_low, parts) =
     ap (λ f. head_at cut (f ++ rest)) parts
     ∙ goes {A = ℕ} {B = Head} (number_comma_at (hi ∷ codes "," ∷ lo ∷ codes "," ∷ rest)) (λ high r. after (number_comma_at r) (λ low r. Some (resized (Extract high low), r))) high (lo ∷ codes "," ∷ rest)
-      (number_comma_there high hi (lo ∷ codes "," ∷ rest) is_high)
+    (number_comma_there high hi (lo ∷ codes "," ∷ rest) is_high)
     ∙ goes {A = ℕ} {B = Head} (number_comma_at (lo ∷ codes "," ∷ rest)) (λ low r. Some (resized (Extract high low), r)) low rest (number_comma_there low lo rest is_low)
 head_there (each_of xs) front rest is = goes {A = List Text} {B = Head} (bound_at (front ++ rest)) (λ xs r. Some (each_of xs, r)) xs rest (bound_there xs front rest is)
 head_there (some_of xs) front rest is = goes {A = List Text} {B = Head} (bound_at (front ++ rest)) (λ xs r. Some (some_of xs, r)) xs rest (bound_there xs front rest is)
@@ -171,12 +171,12 @@ more_there most close frees other (tree_and e es) all n (suc m) front rest (firs
     let both : length (first ++ others) ≡ length first + length others = length-append first others in
     ap (λ f. more_at most (expr_at most n) close (suc m) (f ++ rest)) parts
     ∙ rw other (
-      ap (λ r. after (expr_at most n r) (λ x r. after (more_at most (expr_at most n) close m r) (λ xs r. Some (grown_and most x xs, r)))) (append_assoc first others rest)
-      ∙ goes {A = Grown Tree} {B = Grown Trees} (expr_at most n (first ++ (others ++ rest))) (λ x r. after (more_at most (expr_at most n) close m r) (λ xs r. Some (grown_and most x xs, r))) (limited most e) (others ++ rest)
-        (expr_there most e all.0 n first (others ++ rest) spelled (omega (arith, size, both, short)) (more_free close frees es others rest more))
-      ∙ goes {A = Grown Trees} {B = Grown Trees} (more_at most (expr_at most n) close m (others ++ rest)) (λ xs r. Some (grown_and most (limited most e) xs, r)) (limited_list most es) rest
-        (more_there most close frees other es all.1 n m others rest more (omega (arith, size, both, short)) (omega (arith, size, both, fits)))
-      ∙ ap (λ g. Some (g, rest)) (and_limited most e es))
+    ap (λ r. after (expr_at most n r) (λ x r. after (more_at most (expr_at most n) close m r) (λ xs r. Some (grown_and most x xs, r)))) (append_assoc first others rest)
+    ∙ goes {A = Grown Tree} {B = Grown Trees} (expr_at most n (first ++ (others ++ rest))) (λ x r. after (more_at most (expr_at most n) close m r) (λ xs r. Some (grown_and most x xs, r))) (limited most e) (others ++ rest)
+    (expr_there most e all.0 n first (others ++ rest) spelled (omega (arith, size, both, short)) (more_free close frees es others rest more))
+    ∙ goes {A = Grown Trees} {B = Grown Trees} (more_at most (expr_at most n) close m (others ++ rest)) (λ xs r. Some (grown_and most (limited most e) xs, r)) (limited_list most es) rest
+    (more_there most close frees other es all.1 n m others rest more (omega (arith, size, both, short)) (omega (arith, size, both, fits)))
+    ∙ ap (λ g. Some (g, rest)) (and_limited most e es))
 
 pub arguments_there : (most : ℕ) (close : Text) → ((r : List Text) → is_free 7 (close ∷ r) ≡ true) → bytes_eq (codes ",") close ≡ false → (es : Trees) → AllRead most es → (n : ℕ) (front rest : List Text) →
     SpellsArguments close es front → length front < n → arguments_at most (expr_at most n) close (front ++ rest) ≡ Some (limited_list most es, rest)
@@ -187,9 +187,9 @@ arguments_there most close frees other (tree_and e es) all n front rest (first, 
     ap (λ f. arguments_at most (expr_at most n) close (f ++ rest)) parts
     ∙ ap (arguments_at most (expr_at most n) close) (append_assoc first others rest)
     ∙ goes {A = Grown Tree} {B = Grown Trees} (expr_at most n (first ++ (others ++ rest))) (λ x r. after (more_at most (expr_at most n) close (length r) r) (λ xs r. Some (grown_and most x xs, r))) (limited most e) (others ++ rest)
-      (expr_there most e all.0 n first (others ++ rest) spelled (omega (arith, size, both, short)) (more_free close frees es others rest more))
+    (expr_there most e all.0 n first (others ++ rest) spelled (omega (arith, size, both, short)) (more_free close frees es others rest more))
     ∙ goes {A = Grown Trees} {B = Grown Trees} (more_at most (expr_at most n) close (length (others ++ rest)) (others ++ rest)) (λ xs r. Some (grown_and most (limited most e) xs, r)) (limited_list most es) rest
-      (more_there most close frees other es all.1 n (length (others ++ rest)) others rest more (omega (arith, size, both, short)) (omega (arith, length-append others rest)))
+    (more_there most close frees other es all.1 n (length (others ++ rest)) others rest more (omega (arith, size, both, short)) (omega (arith, length-append others rest)))
     ∙ ap (λ g. Some (g, rest)) (and_limited most e es)
 
 abbrev pub StepReads : ℕ → Step → Type 0
@@ -229,12 +229,12 @@ steps_there most (step_and (element e) ss) all n (suc m) front rest (first, othe
     let in_one : length (inner ++ codes "]" ∷ []) ≡ length inner + 1 = length-append inner (codes "]" ∷ []) in
     ap (λ f. steps_at most (expr_at most n) (suc m) (f ++ rest)) (parts ∙ ap (λ f. f ++ others) shape)
     ∙ ap (λ r. after (closed_at (expr_at most n) (codes "]") r) (λ x r. after (steps_at most (expr_at most n) m r) (λ xs r. Some (join most (λ y ys. step_and (element y) ys) max x xs, r))))
-      (append_assoc (inner ++ codes "]" ∷ []) others rest ∙ append_assoc inner (codes "]" ∷ []) (others ++ rest))
+    (append_assoc (inner ++ codes "]" ∷ []) others rest ∙ append_assoc inner (codes "]" ∷ []) (others ++ rest))
     ∙ goes {A = Grown Tree} {B = Grown Steps} (closed_at (expr_at most n) (codes "]") (inner ++ codes "]" ∷ (others ++ rest)))
-      (λ x r. after (steps_at most (expr_at most n) m r) (λ xs r. Some (join most (λ y ys. step_and (element y) ys) max x xs, r))) (limited most e) (others ++ rest)
-      (closed_there most e all.0 (codes "]") square_free n inner (others ++ rest) spelled (omega (arith, size, both, one, in_one, short)))
+    (λ x r. after (steps_at most (expr_at most n) m r) (λ xs r. Some (join most (λ y ys. step_and (element y) ys) max x xs, r))) (limited most e) (others ++ rest)
+    (closed_there most e all.0 (codes "]") square_free n inner (others ++ rest) spelled (omega (arith, size, both, one, in_one, short)))
     ∙ goes {A = Grown Steps} {B = Grown Steps} (steps_at most (expr_at most n) m (others ++ rest)) (λ xs r. Some (join most (λ y ys. step_and (element y) ys) max (limited most e) xs, r)) (limited_steps most ss) rest
-      (steps_there most ss all.1 n m others rest more (omega (arith, size, both, one, short)) (omega (arith, size, both, one, fits)) free)
+    (steps_there most ss all.1 n m others rest more (omega (arith, size, both, one, short)) (omega (arith, size, both, one, fits)) free)
     ∙ ap (λ g. Some (g, rest)) (element_limited most e ss)
 steps_there most (step_and (member k) ss) all n zero front rest (first, others, (text, is, shape), more, parts) short fits free =
     absurd (let size : length front ≡ length (first ++ others) = ap length parts in let one : length first ≡ 2 = ap length shape in omega (arith, size, one, length-append first others, fits))
@@ -244,7 +244,7 @@ steps_there most (step_and (member k) ss) all n (suc m) front rest (first, other
     let one : length first ≡ 2 = ap length shape in
     ap (λ f. steps_at most (expr_at most n) (suc m) (f ++ rest)) (parts ∙ ap (λ f. f ++ others) shape)
     ∙ goes {A = ℕ} {B = Grown Steps} (member_at (text ∷ (others ++ rest))) (λ k r. after (steps_at most (expr_at most n) m r) (λ xs r. Some (lift most (step_and (member k)) (max 0) xs, r))) k (others ++ rest)
-      (ap (λ o. with_rest o (others ++ rest)) is)
+    (ap (λ o. with_rest o (others ++ rest)) is)
     ∙ goes {A = Grown Steps} {B = Grown Steps} (steps_at most (expr_at most n) m (others ++ rest)) (λ xs r. Some (lift most (step_and (member k)) (max 0) xs, r)) (limited_steps most ss) rest
-      (steps_there most ss all.1 n m others rest more (omega (arith, size, both, one, short)) (omega (arith, size, both, one, fits)) free)
+    (steps_there most ss all.1 n m others rest more (omega (arith, size, both, one, short)) (omega (arith, size, both, one, fits)) free)
     ∙ ap (λ g. Some (g, rest)) (member_limited most k ss)

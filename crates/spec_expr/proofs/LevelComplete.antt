@@ -95,7 +95,7 @@ wrapped_in most e (suc k) front rest inner parts short whole =
     let inside : length (inner ++ codes ")" ∷ []) ≡ length inner + 1 = length-append inner (codes ")" ∷ []) in
     ap (λ f. level_at most (expr_at most (suc k)) 0 (f ++ rest)) parts
     ∙ parenthesised most (suc k) inner rest (limited most e)
-      (closing most (suc k) (limited most e) inner rest (expr_step most k (inner ++ codes ")" ∷ rest) (limited most e, codes ")" ∷ rest) (whole k (omega (arith, size, inside, short)))))
+    (closing most (suc k) (limited most e) inner rest (expr_step most k (inner ++ codes ")" ∷ rest) (limited most e, codes ")" ∷ rest) (whole k (omega (arith, size, inside, short)))))
 
 wrapped : (most : ℕ) (e : Tree) → Own most e → (count : ℕ) → Wrapped most e count
 wrapped most e own zero = record {
@@ -107,10 +107,10 @@ wrapped most e own (suc count) =
     record {
       outer = λ n front rest h short free.
           wrapped_in most e n front rest h.0 h.2 short (λ k fits.
-            whole_stops most (expr_at most k) (h.0 ++ codes ")" ∷ rest) (limited most e) (codes ")" ∷ rest)
-            (level_at_least most (expr_at most k) 0 6 (h.0 ++ codes ")" ∷ rest) (limited most e) (codes ")" ∷ rest) (omega arith) (below.outer k h.0 (codes ")" ∷ rest) h.1 fits (freer_to 0 7 (codes ")" ∷ rest) (round_free rest)))
-            (freer 6 (codes ")" ∷ rest) (round_free rest)))
-            (round_free rest));
+          whole_stops most (expr_at most k) (h.0 ++ codes ")" ∷ rest) (limited most e) (codes ")" ∷ rest)
+          (level_at_least most (expr_at most k) 0 6 (h.0 ++ codes ")" ∷ rest) (limited most e) (codes ")" ∷ rest) (omega arith) (below.outer k h.0 (codes ")" ∷ rest) h.1 fits (freer_to 0 7 (codes ")" ∷ rest) (round_free rest)))
+          (freer 6 (codes ")" ∷ rest) (round_free rest)))
+          (round_free rest));
     }
 
 free_front : (j : ℕ) (ts : List Text) → is_free j ts ≡ true → is_free 0 ts ≡ true
@@ -195,7 +195,7 @@ base_literal most n k front rest (text, is, parts) short free =
     ap (λ f. level_at most (expr_at most k) 0 (f ++ rest)) parts
     ∙ word_begins most k text rest (number_other n text (codes "-") refl is) (number_other n text (codes "~") refl is) (number_other n text (codes "(") refl is)
     ∙ leaf_stands most (expr_at most k) text rest (literal n) free
-      (ap (λ o. number_or o (if bytes_eq text (codes "True") then Some (truth true) else (if bytes_eq text (codes "False") then Some (truth false) else (if is_name text then Some (named text) else None)))) is)
+    (ap (λ o. number_or o (if bytes_eq text (codes "True") then Some (truth true) else (if bytes_eq text (codes "False") then Some (truth false) else (if is_name text then Some (named text) else None)))) is)
 
 pub base_truth : (most : ℕ) (b : Bool) → Base most (truth b)
 base_truth most true k front rest parts short free =
@@ -224,7 +224,7 @@ base_read_at most s f es all k front rest (inner, state, field, spelled, parts) 
     ap (λ g. level_at most (expr_at most k) 0 (g ++ rest)) parts
     ∙ dotted_there most k s f (codes "(" ∷ (inner ++ rest)) state field
     ∙ goes {A = Grown Trees} {B = Grown Tree} (arguments_at most (expr_at most k) (codes ")") (inner ++ rest)) (λ es r. Some (lift most (read_at s f) one_deeper es, r)) (limited_list most es) rest
-      (arguments_there most (codes ")") round_free refl es all k inner rest spelled (omega (arith, size, short)))
+    (arguments_there most (codes ")") round_free refl es all k inner rest spelled (omega (arith, size, short)))
     ∙ ap (λ g. Some (g, rest)) (bounded_lift most (read_at s f) one_deeper es (depths es) (omega arith))
 
 pub base_path : (most : ℕ) (g : Text) (ss : Steps) → AllSteps most ss → Base most (path g ss)
@@ -233,9 +233,9 @@ base_path most g ss all k front rest (inner, name, spelled, parts) short free =
     ap (λ f. level_at most (expr_at most k) 0 (f ++ rest)) parts
     ∙ word_begins most k (codes "kernel") (codes "." ∷ g ∷ (inner ++ rest)) refl refl refl
     ∙ rw name (
-      goes {A = Grown Steps} {B = Grown Tree} (steps_at most (expr_at most k) (length (inner ++ rest)) (inner ++ rest)) (λ ss r. Some (lift most (path g) one_deeper ss, r)) (limited_steps most ss) rest
-      (steps_there most ss all k (length (inner ++ rest)) inner rest spelled (omega (arith, size, short)) (omega (arith, length-append inner rest)) free)
-      ∙ ap (λ x. Some (x, rest)) (bounded_lift most (path g) one_deeper ss (step_depths ss) (omega arith)))
+    goes {A = Grown Steps} {B = Grown Tree} (steps_at most (expr_at most k) (length (inner ++ rest)) (inner ++ rest)) (λ ss r. Some (lift most (path g) one_deeper ss, r)) (limited_steps most ss) rest
+    (steps_there most ss all k (length (inner ++ rest)) inner rest spelled (omega (arith, size, short)) (omega (arith, length-append inner rest)) free)
+    ∙ ap (λ x. Some (x, rest)) (bounded_lift most (path g) one_deeper ss (step_depths ss) (omega arith)))
 
 -- a call, whose word has a parenthesis behind it
 call_begins : (most n : ℕ) (word : Text) (ts : List Text) (kind : CallKind) → bytes_eq word (codes "-") ≡ false → bytes_eq word (codes "~") ≡ false → bytes_eq word (codes "(") ≡ false → call_of word ≡ Some kind →
@@ -249,7 +249,7 @@ base_all most es all k front rest (inner, spelled, parts) short free =
     ap (λ g. level_at most (expr_at most k) 0 (g ++ rest)) parts
     ∙ call_begins most k (codes "And") (inner ++ rest) conjunction refl refl refl refl
     ∙ goes {A = Grown Trees} {B = Grown Tree} (arguments_at most (expr_at most k) (codes ")") (inner ++ rest)) (λ es r. Some (lift most all_of one_deeper es, r)) (limited_list most es) rest
-      (arguments_there most (codes ")") round_free refl es all k inner rest spelled (omega (arith, size, short)))
+    (arguments_there most (codes ")") round_free refl es all k inner rest spelled (omega (arith, size, short)))
     ∙ ap (λ g. Some (g, rest)) (bounded_lift most all_of one_deeper es (depths es) (omega arith))
 
 pub base_any : (most : ℕ) (es : Trees) → AllRead most es → Base most (any_of es)
@@ -259,7 +259,7 @@ base_any most es all k front rest (inner, spelled, parts) short free =
     ap (λ g. level_at most (expr_at most k) 0 (g ++ rest)) parts
     ∙ call_begins most k (codes "Or") (inner ++ rest) disjunction refl refl refl refl
     ∙ goes {A = Grown Trees} {B = Grown Tree} (arguments_at most (expr_at most k) (codes ")") (inner ++ rest)) (λ es r. Some (lift most any_of one_deeper es, r)) (limited_list most es) rest
-      (arguments_there most (codes ")") round_free refl es all k inner rest spelled (omega (arith, size, short)))
+    (arguments_there most (codes ")") round_free refl es all k inner rest spelled (omega (arith, size, short)))
     ∙ ap (λ g. Some (g, rest)) (bounded_lift most any_of one_deeper es (depths es) (omega arith))
 
 pub base_sized : (most n w : ℕ) → Base most (sized n w)
@@ -268,7 +268,7 @@ base_sized most n w k front rest (number, width, is_number, is_width, parts) sho
     ap (λ g. level_at most (expr_at most k) 0 (g ++ rest)) parts
     ∙ call_begins most k (codes "BitVecVal") (number ∷ codes "," ∷ width ∷ codes ")" ∷ rest) fixed refl refl refl refl
     ∙ goes {A = ℕ} {B = Grown Tree} (number_comma_at (number ∷ codes "," ∷ width ∷ codes ")" ∷ rest)) (λ n r. after (number_at r) (λ w r. past (codes ")") r (λ r. Some (leaf most (sized n w), r)))) n (width ∷ codes ")" ∷ rest)
-      (number_comma_there n number (width ∷ codes ")" ∷ rest) is_number)
+    (number_comma_there n number (width ∷ codes ")" ∷ rest) is_number)
     ∙ goes {A = ℕ} {B = Grown Tree} (number_at (width ∷ codes ")" ∷ rest)) (λ w r. past (codes ")") r (λ r. Some (leaf most (sized n w), r))) w (codes ")" ∷ rest) (number_there w width (codes ")" ∷ rest) is_width)
 
 head_call : (head : Head) → (call_of (head_word head) ≡ Some (headed (kind_of head))) × (bytes_eq (head_word head) (codes "-") ≡ false) × (bytes_eq (head_word head) (codes "~") ≡ false) × (bytes_eq (head_word head) (codes "(") ≡ false)
@@ -291,9 +291,9 @@ headed_there most head a reads k front rest (first, inner, is_head, spelled, par
     ∙ ap (λ ts. level_at most (expr_at most k) 0 (head_word head ∷ codes "(" ∷ ts)) (append_assoc first (inner ++ codes ")" ∷ []) rest ∙ ap (λ ts. first ++ ts) (append_assoc inner (codes ")" ∷ []) rest))
     ∙ call_begins most k (head_word head) (first ++ (inner ++ codes ")" ∷ rest)) (headed (kind_of head)) call.1 call.2 call.3 call.0
     ∙ goes {A = Head} {B = Grown Tree} (head_at (kind_of head) (first ++ (inner ++ codes ")" ∷ rest))) (λ head r. after (closed_at (expr_at most k) (codes ")") r) (λ a r. Some (lift most (headed_tree head) one_deeper a, r))) head (inner ++ codes ")" ∷ rest)
-      (head_there head first (inner ++ codes ")" ∷ rest) is_head)
+    (head_there head first (inner ++ codes ")" ∷ rest) is_head)
     ∙ goes {A = Grown Tree} {B = Grown Tree} (closed_at (expr_at most k) (codes ")") (inner ++ codes ")" ∷ rest)) (λ a r. Some (lift most (headed_tree head) one_deeper a, r)) (limited most a) rest
-      (closed_there most a reads (codes ")") round_free k inner rest spelled (omega (arith, size, long, inside, short)))
+    (closed_there most a reads (codes ")") round_free k inner rest spelled (omega (arith, size, long, inside, short)))
     ∙ ap (λ g. Some (g, rest)) (headed_limited most head a)
 
 pub base_choose : (most : ℕ) (c a b : Tree) → Reads most c → Reads most a → Reads most b → Base most (choose c a b)
@@ -306,18 +306,18 @@ base_choose most c a b rc ra rb k front rest (first, second, third, sc, sa, sb, 
     let s2 : length middle ≡ length second + suc (length last) = length-append second (codes "," ∷ last) in
     let s3 : length last ≡ length third + 1 = length-append third (codes ")" ∷ []) in
     let shape : (first ++ codes "," ∷ middle) ++ rest ≡ first ++ codes "," ∷ (second ++ codes "," ∷ (third ++ codes ")" ∷ rest)) =
-        append_assoc first (codes "," ∷ middle) rest ∙ ap (λ ts. first ++ codes "," ∷ ts) (append_assoc second (codes "," ∷ last) rest ∙ ap (λ ts. second ++ codes "," ∷ ts) (append_assoc third (codes ")" ∷ []) rest)) in
+    append_assoc first (codes "," ∷ middle) rest ∙ ap (λ ts. first ++ codes "," ∷ ts) (append_assoc second (codes "," ∷ last) rest ∙ ap (λ ts. second ++ codes "," ∷ ts) (append_assoc third (codes ")" ∷ []) rest)) in
     ap (λ g. level_at most (expr_at most k) 0 (g ++ rest)) parts
     ∙ ap (λ ts. level_at most (expr_at most k) 0 (codes "If" ∷ codes "(" ∷ ts)) shape
     ∙ call_begins most k (codes "If") (first ++ codes "," ∷ (second ++ codes "," ∷ (third ++ codes ")" ∷ rest))) choice refl refl refl refl
     ∙ goes {A = Grown Tree} {B = Grown Tree} (closed_at (expr_at most k) (codes ",") (first ++ codes "," ∷ (second ++ codes "," ∷ (third ++ codes ")" ∷ rest))))
-      (λ c r. after (closed_at (expr_at most k) (codes ",") r) (λ a r. after (closed_at (expr_at most k) (codes ")") r) (λ b r. Some (grown_choice most c a b, r)))) (limited most c) (second ++ codes "," ∷ (third ++ codes ")" ∷ rest))
-      (closed_there most c rc (codes ",") comma_free k first (second ++ codes "," ∷ (third ++ codes ")" ∷ rest)) sc (omega (arith, size, s1, short)))
+    (λ c r. after (closed_at (expr_at most k) (codes ",") r) (λ a r. after (closed_at (expr_at most k) (codes ")") r) (λ b r. Some (grown_choice most c a b, r)))) (limited most c) (second ++ codes "," ∷ (third ++ codes ")" ∷ rest))
+    (closed_there most c rc (codes ",") comma_free k first (second ++ codes "," ∷ (third ++ codes ")" ∷ rest)) sc (omega (arith, size, s1, short)))
     ∙ goes {A = Grown Tree} {B = Grown Tree} (closed_at (expr_at most k) (codes ",") (second ++ codes "," ∷ (third ++ codes ")" ∷ rest)))
-      (λ a r. after (closed_at (expr_at most k) (codes ")") r) (λ b r. Some (grown_choice most (limited most c) a b, r))) (limited most a) (third ++ codes ")" ∷ rest)
-      (closed_there most a ra (codes ",") comma_free k second (third ++ codes ")" ∷ rest) sa (omega (arith, size, s1, s2, short)))
+    (λ a r. after (closed_at (expr_at most k) (codes ")") r) (λ b r. Some (grown_choice most (limited most c) a b, r))) (limited most a) (third ++ codes ")" ∷ rest)
+    (closed_there most a ra (codes ",") comma_free k second (third ++ codes ")" ∷ rest) sa (omega (arith, size, s1, s2, short)))
     ∙ goes {A = Grown Tree} {B = Grown Tree} (closed_at (expr_at most k) (codes ")") (third ++ codes ")" ∷ rest)) (λ b r. Some (grown_choice most (limited most c) (limited most a) b, r)) (limited most b) rest
-      (closed_there most b rb (codes ")") round_free k third rest sb (omega (arith, size, s1, s2, s3, short)))
+    (closed_there most b rb (codes ")") round_free k third rest sb (omega (arith, size, s1, s2, s3, short)))
     ∙ ap (λ g. Some (g, rest)) (limited_choice most c a b)
 
 pub base_minus : (most : ℕ) (a : Tree) → Reads most a → Base most (unary Minus a)
@@ -326,7 +326,7 @@ base_minus most a reads k front rest (inner, spelled, parts) short free =
     let size : length front ≡ suc (length inner) = ap length parts in
     ap (λ g. level_at most (expr_at most k) 0 (g ++ rest)) parts
     ∙ goes {A = Grown Tree} {B = Grown Tree} (unary_at most (expr_at most k) (inner ++ rest)) (λ a r. Some (lift most (unary Minus) one_deeper a, r)) (limited most a) rest
-      (reads.levels k 0 inner rest (omega arith) spelled (omega (arith, size, short)) free)
+    (reads.levels k 0 inner rest (omega arith) spelled (omega (arith, size, short)) free)
     ∙ ap (λ g. Some (g, rest)) (bounded_lift most (unary Minus) one_deeper a (depth a) (omega arith))
 
 pub base_complement : (most : ℕ) (a : Tree) → Reads most a → Base most (unary Complement a)
@@ -335,7 +335,7 @@ base_complement most a reads k front rest (inner, spelled, parts) short free =
     let size : length front ≡ suc (length inner) = ap length parts in
     ap (λ g. level_at most (expr_at most k) 0 (g ++ rest)) parts
     ∙ goes {A = Grown Tree} {B = Grown Tree} (unary_at most (expr_at most k) (inner ++ rest)) (λ a r. Some (lift most (unary Complement) one_deeper a, r)) (limited most a) rest
-      (reads.levels k 0 inner rest (omega arith) spelled (omega (arith, size, short)) free)
+    (reads.levels k 0 inner rest (omega arith) spelled (omega (arith, size, short)) free)
     ∙ ap (λ g. Some (g, rest)) (bounded_lift most (unary Complement) one_deeper a (depth a) (omega arith))
 
 -- how operators are told by their marks
@@ -402,7 +402,7 @@ record Halves (left right : ℕ) (t : Text) (a b : Tree) (front : List Text) : T
 halves : (left right own : ℕ) (t : Text) (kind : BinKind) (a b : Tree) (front : List Text) → form_of kind ≡ between own left right t → SpellsBare (binary kind a b) front → Halves left right t a b front
 halves left right own t kind a b front form h =
     let joined : AreJoined (between own left right t) (λ place. SpellsAt place a) (λ place. SpellsAt place b) front =
-        subst (λ f. AreJoined f (λ place. SpellsAt place a) (λ place. SpellsAt place b) front) form h in
+    subst (λ f. AreJoined f (λ place. SpellsAt place a) (λ place. SpellsAt place b) front) form h in
     record { fa = joined.0; fb = joined.1; sa = joined.2; sb = joined.3; parts = joined.4 }
 
 chain_goes : (most : ℕ) (operand : Reader (Grown Tree)) (j m : ℕ) (g : Grown Tree) (t : Text) (ts : List Text) (kind : BinKind) (b : Grown Tree) (rest : List Text) → operator_at (suc j) t ≡ Some kind → operand ts ≡ Some (b, rest) →
@@ -463,8 +463,8 @@ own_chain most kind a b ra rb c =
       levels = λ n j front rest low fits h short free. chain_from most kind a b ra rb c n j front rest (omega (arith, own, fits)) h short free;
       chains = λ n j front rest low fits h short free.
           elim (equal_or_more c.i j (omega (arith, own, fits))) [
-            inl e ↦ subst (λ k. ReadsOn most n k (binary kind a b) front rest) e (chain_there most kind a b ra rb c n front rest h short (subst (λ k. is_free k rest ≡ true) (sym e) free))
-          | inr more ↦ reads_on most n j (binary kind a b) front rest (chain_from most kind a b ra rb c n j front rest more h short free)
+            | inl e ↦ subst (λ k. ReadsOn most n k (binary kind a b) front rest) e (chain_there most kind a b ra rb c n front rest h short (subst (λ k. is_free k rest ≡ true) (sym e) free))
+            | inr more ↦ reads_on most n j (binary kind a b) front rest (chain_from most kind a b ra rb c n j front rest more h short free)
           ];
       whole = λ n front rest h short free.
           whole_stops most (expr_at most n) (front ++ rest) (limited most (binary kind a b)) rest
@@ -491,16 +491,16 @@ own_compare most kind a b ra rb c =
           ap (λ f. whole_at most (expr_at most n) (f ++ rest)) parts.parts
           ∙ ap (whole_at most (expr_at most n)) (append_assoc parts.fa (c.t ∷ parts.fb) rest)
           ∙ compare_goes most (expr_at most n) (parts.fa ++ c.t ∷ (parts.fb ++ rest)) (limited most a) c.t (parts.fb ++ rest) kind (limited most b) rest
-            (ra.levels n 6 parts.fa (c.t ∷ (parts.fb ++ rest)) (omega arith) parts.sa (omega (arith, size, both, short)) (c.free (parts.fb ++ rest)))
-            c.operator
-            (rb.levels n 6 parts.fb rest (omega arith) parts.sb (omega (arith, size, both, short)) (freer 6 rest free))
+          (ra.levels n 6 parts.fa (c.t ∷ (parts.fb ++ rest)) (omega arith) parts.sa (omega (arith, size, both, short)) (c.free (parts.fb ++ rest)))
+          c.operator
+          (rb.levels n 6 parts.fb rest (omega arith) parts.sb (omega (arith, size, both, short)) (freer 6 rest free))
           ∙ ap (λ g. Some (g, rest)) (binary_limited most kind a b);
     }
 
 base_pair : (most : ℕ) (kind : BinKind) (a b : Tree) → Reads most a → Reads most b → PairKind kind → Base most (binary kind a b)
 base_pair most kind a b ra rb c k front rest h short free =
     let joined : AreJoined (called c.t) (λ place. SpellsAt place a) (λ place. SpellsAt place b) front =
-        subst (λ f. AreJoined f (λ place. SpellsAt place a) (λ place. SpellsAt place b) front) c.form h in
+    subst (λ f. AreJoined f (λ place. SpellsAt place a) (λ place. SpellsAt place b) front) c.form h in
     let fa : List Text = joined.0 in
     let fb : List Text = joined.1 in
     let last : List Text = fb ++ codes ")" ∷ [] in
@@ -508,15 +508,15 @@ base_pair most kind a b ra rb c k front rest h short free =
     let s1 : length (fa ++ codes "," ∷ last) ≡ length fa + suc (length last) = length-append fa (codes "," ∷ last) in
     let s2 : length last ≡ length fb + 1 = length-append fb (codes ")" ∷ []) in
     let shape : (fa ++ codes "," ∷ last) ++ rest ≡ fa ++ codes "," ∷ (fb ++ codes ")" ∷ rest) =
-        append_assoc fa (codes "," ∷ last) rest ∙ ap (λ ts. fa ++ codes "," ∷ ts) (append_assoc fb (codes ")" ∷ []) rest) in
+    append_assoc fa (codes "," ∷ last) rest ∙ ap (λ ts. fa ++ codes "," ∷ ts) (append_assoc fb (codes ")" ∷ []) rest) in
     ap (λ g. level_at most (expr_at most k) 0 (g ++ rest)) joined.4
     ∙ ap (λ ts. level_at most (expr_at most k) 0 (c.t ∷ codes "(" ∷ ts)) shape
     ∙ call_begins most k c.t (fa ++ codes "," ∷ (fb ++ codes ")" ∷ rest)) (pair kind) c.minus c.tilde c.round c.call
     ∙ goes {A = Grown Tree} {B = Grown Tree} (closed_at (expr_at most k) (codes ",") (fa ++ codes "," ∷ (fb ++ codes ")" ∷ rest)))
-      (λ a r. after (closed_at (expr_at most k) (codes ")") r) (λ b r. Some (grown_binary most kind a b, r))) (limited most a) (fb ++ codes ")" ∷ rest)
-      (closed_there most a ra (codes ",") comma_free k fa (fb ++ codes ")" ∷ rest) joined.2 (omega (arith, size, s1, short)))
+    (λ a r. after (closed_at (expr_at most k) (codes ")") r) (λ b r. Some (grown_binary most kind a b, r))) (limited most a) (fb ++ codes ")" ∷ rest)
+    (closed_there most a ra (codes ",") comma_free k fa (fb ++ codes ")" ∷ rest) joined.2 (omega (arith, size, s1, short)))
     ∙ goes {A = Grown Tree} {B = Grown Tree} (closed_at (expr_at most k) (codes ")") (fb ++ codes ")" ∷ rest)) (λ b r. Some (grown_binary most kind (limited most a) b, r)) (limited most b) rest
-      (closed_there most b rb (codes ")") round_free k fb rest joined.3 (omega (arith, size, s1, s2, short)))
+    (closed_there most b rb (codes ")") round_free k fb rest joined.3 (omega (arith, size, s1, s2, short)))
     ∙ ap (λ g. Some (g, rest)) (binary_limited most kind a b)
 
 reads_binary : (most : ℕ) (kind : BinKind) (a b : Tree) → Reads most a → Reads most b → Told kind → Reads most (binary kind a b)

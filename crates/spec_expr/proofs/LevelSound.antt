@@ -193,14 +193,28 @@ compares t kind form = (7, record { left = 6; right = 6; form = form; right_is =
 each_mark : EachEntry IsMark operators
 each_mark = (
   chains _ _ 1 0 refl refl (omega arith),
-  (chains _ _ 2 1 refl refl (omega arith),
-  (chains _ _ 2 1 refl refl (omega arith),
-  (chains _ _ 3 2 refl refl (omega arith),
-  (chains _ _ 3 2 refl refl (omega arith),
-  (chains _ _ 4 3 refl refl (omega arith),
-  (chains _ _ 5 4 refl refl (omega arith),
-  (chains _ _ 6 5 refl refl (omega arith),
-  (compares _ _ refl, (compares _ _ refl, (compares _ _ refl, (compares _ _ refl, (compares _ _ refl, (compares _ _ refl, tt))))))))))))),
+  (
+    chains _ _ 2 1 refl refl (omega arith),
+    (
+      chains _ _ 2 1 refl refl (omega arith),
+      (
+        chains _ _ 3 2 refl refl (omega arith),
+        (
+          chains _ _ 3 2 refl refl (omega arith),
+          (
+            chains _ _ 4 3 refl refl (omega arith),
+            (
+              chains _ _ 5 4 refl refl (omega arith),
+              (
+                chains _ _ 6 5 refl refl (omega arith),
+                (compares _ _ refl, (compares _ _ refl, (compares _ _ refl, (compares _ _ refl, (compares _ _ refl, (compares _ _ refl, tt)))))),
+              ),
+            ),
+          ),
+        ),
+      ),
+    ),
+  ),
 )
 
 operator_when : (loose : ℕ) (t : Text) (k kind : BinKind) (b : Bool) → (form_looseness (form_of k) == loose) ≡ b → IsMark t k → ◌≡◌ {A = Option BinKind} (if b then Some k else None) (Some kind) → Operator loose t kind
@@ -250,7 +264,7 @@ chain_by most operand j low sound m a fa k t ts g rest spelled grown others (Som
     let form : form_of kind ≡ between (suc j) (suc j) j t = op.form ∙ ap (λ n. between (suc j) n op.right t) left ∙ ap (λ n. between (suc j) (suc j) n t) right in
     let whole : SpellsAt (suc j) (binary kind a f.e) (fa ++ t ∷ f.front) = joined_at (suc j) (suc j) j t kind a f.e fa f.front form spelled f.spelled in
     let grew : grown_binary most kind k u.value ≡ limited most (binary kind a f.e) =
-        ap (λ x. grown_binary most kind x u.value) grown ∙ ap (grown_binary most kind (limited most a)) f.grown ∙ binary_limited most kind a f.e in
+    ap (λ x. grown_binary most kind x u.value) grown ∙ ap (grown_binary most kind (limited most a)) f.grown ∙ binary_limited most kind a f.e in
     let inner = others (binary kind a f.e) (fa ++ t ∷ f.front) (grown_binary most kind k u.value) u.rest whole grew u.on_is in
     record {
       e = inner.e;

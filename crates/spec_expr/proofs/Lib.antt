@@ -6,3 +6,4 @@ pub mod LevelSound
 pub mod Complete
 pub mod LevelComplete
 pub mod OneTree
+pub mod Digits

@@ -125,7 +125,7 @@ three_front : (word : Text) (ts c a b rest r u : List Text) → ts ≡ (c ++ cod
     word ∷ codes "(" ∷ ts ≡ (word ∷ codes "(" ∷ (c ++ codes "," ∷ (a ++ codes "," ∷ (b ++ codes ")" ∷ [])))) ++ rest
 three_front word ts c a b rest r u first second third =
     let inner : r ≡ (a ++ codes "," ∷ (b ++ codes ")" ∷ [])) ++ rest =
-        second ∙ append_assoc a (codes "," ∷ []) u ∙ ap (λ v. a ++ codes "," ∷ v) third ∙ sym (append_assoc a (codes "," ∷ (b ++ codes ")" ∷ [])) rest) in
+    second ∙ append_assoc a (codes "," ∷ []) u ∙ ap (λ v. a ++ codes "," ∷ v) third ∙ sym (append_assoc a (codes "," ∷ (b ++ codes ")" ∷ [])) rest) in
     ap (λ v. word ∷ codes "(" ∷ v) (first ∙ append_assoc c (codes "," ∷ []) r ∙ ap (λ v. c ++ codes "," ∷ v) inner ∙ sym (append_assoc c (codes "," ∷ (a ++ codes "," ∷ (b ++ codes ")" ∷ []))) rest))
 
 pub call_sound : (most : ℕ) (inner : Reader (Grown Tree)) → IsSound most 7 inner → (kind : CallKind) (word : Text) → IsCallWord word kind → (ts : List Text) (g : Grown Tree) (rest : List Text) →
@@ -169,7 +169,7 @@ call_sound most inner sound (pair kind) word is ts g rest h =
     }
 call_sound most inner sound choice word is ts g rest h =
     let a = after_is {A = Grown Tree} {B = Grown Tree} (closed_at inner (codes ",") ts)
-        (λ c r. after (closed_at inner (codes ",") r) (λ a r. after (closed_at inner (codes ")") r) (λ b r. Some (grown_choice most c a b, r)))) (g, rest) h in
+    (λ c r. after (closed_at inner (codes ",") r) (λ a r. after (closed_at inner (codes ")") r) (λ b r. Some (grown_choice most c a b, r)))) (g, rest) h in
     let f = closed_sound most inner sound (codes ",") ts a.value a.rest a.read in
     let b = after_is {A = Grown Tree} {B = Grown Tree} (closed_at inner (codes ",") a.rest) (λ x r. after (closed_at inner (codes ")") r) (λ y r. Some (grown_choice most a.value x y, r))) (g, rest) a.on_is in
     let u = closed_sound most inner sound (codes ",") a.rest b.value b.rest b.read in

@@ -5,3 +5,9 @@
 #![tactic(auto)]
 
 pub mod laws;
+pub mod word;
+
+pub use word::{is_name, member_of, number_of};
+
+#[cfg(test)]
+mod tests;
