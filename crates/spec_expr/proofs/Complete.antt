@@ -1,20 +1,16 @@
 -- What is spelled is read there: names, numbers, lists and leaves.
-use Rattle.std.proofs.Common.{◌≡◌, ℕ, zero, suc, ◌+◌, ◌≤◌, ◌<◌, max, Bool, true, false, not, ◌&&◌, ◌||◌, List, [], ◌∷◌, ◌++◌, length, length-append, refl, ap, sym, subst, ◌∙◌, append_assoc, append-nil, arith}
-use Rattle.std.specs.Prelude.{Option, Some, None, codes, bytes_eq, if◌then◌else◌}
+use Rattle.std.proofs.Common.{◌≡◌, ℕ, zero, suc, ◌+◌, ◌≤◌, ◌<◌, max, true, false, not, ◌||◌, List, [], ◌∷◌, ◌++◌, length, length-append, refl, ap, subst, ◌∙◌, append_assoc, arith}
+use Rattle.std.specs.Prelude.{Option, Some, None, codes, bytes_eq}
 use Rattle.std.proofs.lemmas.Slice.Eq.{bytes_eq-Decides}
-use Rattle.spec_ast.specs.declared.kind.UnKind.TheVariants.{Minus, Complement, Not}
 use Rattle.spec_ast.specs.declared.kind.BinKind.{BinKind}
-use Rattle.spec_ast.specs.declared.raw.RawResize.{RawResize}
 use Rattle.spec_ast.specs.declared.raw.RawResize.TheVariants.{ZeroExt, SignExt, Extract}
-use Rattle.spec_ast.specs.Raw.{Tree, literal, truth, named, read, read_at, path, unary, binary, all_of, any_of, choose, resize, sized, for_all, exists, Trees, no_trees, tree_and, Step, element, member, Steps, no_steps, step_and}
-use Rattle.spec_ast.specs.Depth.{depth, depths, step_depths}
-use Rattle.spec_expr.specs.Words.{Text, is_keyword, begins_name, is_name, number_of, member_of}
-use Rattle.spec_expr.specs.Spelling.{looseness, IsAt, IsWrapped, AreMoreNames, AreNames, IsNumber, Head, negation, resized, each_of, some_of, SpellsResize, SpellsBound, SpellsHead, SpellsBare, SpellsArguments, SpellsMore, SpellsSteps, SpellsStep, SpellsAt}
+use Rattle.spec_ast.specs.Raw.{Tree, Trees, no_trees, tree_and, Step, element, member, Steps, no_steps, step_and}
+use Rattle.spec_expr.specs.Words.{Text, is_name}
+use Rattle.spec_expr.specs.Spelling.{AreMoreNames, AreNames, IsNumber, Head, negation, resized, each_of, some_of, SpellsBound, SpellsHead, SpellsArguments, SpellsMore, SpellsSteps, SpellsAt}
 use Rattle.spec_expr.specs.Grown.{Grown, bounded, lift, join, limited, limited_list, limited_steps}
-use Rattle.spec_expr.specs.Reading.{Reader, after, past, with_rest, operator_at, is_no_operator, has_no_operator, continues, is_free, by_operator, number_at, number_comma_at, member_at, name_at, more_names_at, names_at, bound_at, HeadKind, negated, widened, sign_widened, cut, every, any, head_at, one_deeper, grown_binary, grown_and, leaf, closed_at, more_at, arguments_at, steps_at, chain_at, level_at, whole_at, compared_at, expr_at, unary_at}
-use Rattle.spec_expr.proofs.Parts.{same_text, other_text, left_true, right_true, Neither, neither, not_true}
-use Rattle.spec_expr.proofs.GrownLaws.{bounded_lift, bounded_join}
-use Rattle.spec_expr.proofs.Sound.{binary_limited, and_limited}
+use Rattle.spec_expr.specs.Reading.{after, past, with_rest, operator_at, is_no_operator, has_no_operator, continues, is_free, number_at, number_comma_at, member_at, name_at, more_names_at, names_at, bound_at, HeadKind, negated, widened, sign_widened, cut, every, any, head_at, grown_and, closed_at, more_at, arguments_at, steps_at, chain_at, level_at, whole_at, expr_at}
+use Rattle.spec_expr.proofs.Parts.{left_true, right_true, neither, not_true}
+use Rattle.spec_expr.proofs.Sound.{and_limited}
 use Rattle.spec_expr.proofs.PrimarySound.{element_limited, member_limited}
 
 pub text_self : (t : Text) → bytes_eq t t ≡ true

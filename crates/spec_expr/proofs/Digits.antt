@@ -1,9 +1,9 @@
 -- One step of the loop over digits.
-use Rattle.std.proofs.Common.{◌≡◌, ℕ, suc, ◌+◌, ◌*◌, ◌^◌, ◌<◌, ◌≤◌, Bool, true, false, List, [], ◌∷◌, length, drop, get_or, refl, ap, sym, ◌∙◌, add-one, arith, drop-cons}
+use Rattle.std.proofs.Common.{◌≡◌, ℕ, ◌+◌, ◌*◌, ◌^◌, ◌<◌, ◌≤◌, Bool, true, false, List, [], ◌∷◌, length, drop, get_or, refl, ap, sym, ◌∙◌, add-one, arith, drop-cons}
 use Rattle.std.specs.Prelude.{Option, Some, None, if◌then◌else◌, nat_lt}
-use Rattle.std.proofs.lemmas.Bool.{ltb-true, ltb-false, lt-ltb, le-ltb}
+use Rattle.std.proofs.lemmas.Bool.{ltb-false, lt-ltb, le-ltb}
 use Rattle.std.proofs.Math.Nat.{mul-le-mul_left}
-use Rattle.spec_expr.specs.Words.{digit, digits_behind, digits_of, within}
+use Rattle.spec_expr.specs.Words.{digit, digits_behind, within}
 
 too_large_by : (base n b : ℕ) (rest : List ℕ) (v : Bool) → within (digits_behind base (n * base + digit b) rest) ≡ None →
     within (if v then digits_behind base (n * base + digit b) rest else None) ≡ None

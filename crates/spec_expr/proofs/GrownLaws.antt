@@ -1,10 +1,10 @@
 -- Building up to a depth commutes with the constructors.
-use Rattle.std.proofs.Common.{◌≡◌, ℕ, ◌+◌, ◌≤◌, ◌<◌, max, Bool, true, false, refl, ap, sym, subst, ◌∙◌, arith}
+use Rattle.std.proofs.Common.{◌≡◌, ℕ, ◌+◌, ◌≤◌, ◌<◌, max, Bool, true, false, refl, ap, ◌∙◌, arith}
 use Rattle.std.specs.Prelude.{nat_le, if◌then◌else◌}
-use Rattle.std.proofs.lemmas.Bool.{leb-true, leb-false, lt-leb}
+use Rattle.std.proofs.lemmas.Bool.{leb-false, lt-leb}
 use Rattle.spec_ast.specs.Raw.{Tree, choose}
 use Rattle.spec_ast.specs.Depth.{depth}
-use Rattle.spec_expr.specs.Grown.{Grown, built, too_deep, bounded, lift, join, limited}
+use Rattle.spec_expr.specs.Grown.{built, too_deep, bounded, lift, join, limited}
 use Rattle.spec_expr.specs.Reading.{both_deeper, grown_choice}
 
 over : {A : Type 0} (most : ℕ) (a : A) (d : ℕ) → most < d → too_deep ≡ bounded most a d

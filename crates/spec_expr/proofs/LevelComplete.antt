@@ -1,6 +1,6 @@
 -- What is spelled is read there: leaves, calls, signs and operators.
-use Rattle.std.proofs.Common.{◌≡◌, ℕ, zero, suc, ◌+◌, ◌-◌, ◌≤◌, ◌<◌, max, Bool, true, false, not, ◌&&◌, ◌||◌, ◌⊎◌, inl, inr, List, [], ◌∷◌, ◌++◌, length, length-append, refl, ap, sym, subst, ◌∙◌, append_assoc, append-nil, arith}
-use Rattle.std.specs.Prelude.{Option, Some, None, codes, bytes_eq, if◌then◌else◌}
+use Rattle.std.proofs.Common.{◌≡◌, ℕ, zero, suc, ◌+◌, ◌-◌, ◌≤◌, ◌<◌, Bool, true, false, not, ◌⊎◌, inl, inr, List, [], ◌∷◌, ◌++◌, length, length-append, refl, ap, sym, subst, ◌∙◌, append_assoc, arith}
+use Rattle.std.specs.Prelude.{Some, None, codes, bytes_eq, if◌then◌else◌}
 use Rattle.spec_ast.specs.declared.kind.UnKind.{UnKind}
 use Rattle.spec_ast.specs.declared.kind.UnKind.TheVariants.{Minus, Complement, Not}
 use Rattle.spec_ast.specs.declared.kind.BinKind.{BinKind}
@@ -9,14 +9,14 @@ use Rattle.spec_ast.specs.declared.raw.RawResize.TheVariants.{ZeroExt, SignExt, 
 use Rattle.spec_ast.specs.Raw.{Tree, literal, truth, named, read, read_at, path, unary, binary, all_of, any_of, choose, resize, sized, for_all, exists, Trees, no_trees, tree_and, Step, element, member, Steps, no_steps, step_and}
 use Rattle.spec_ast.specs.Depth.{depth, depths, step_depths}
 use Rattle.spec_expr.specs.Words.{Text, is_keyword, begins_name, is_name, number_of}
-use Rattle.spec_expr.specs.Spelling.{Form, between, called, form_of, form_looseness, looseness, IsAt, IsWrapped, AreJoined, IsCalled, IsNumber, IsStateName, Head, negation, resized, each_of, some_of, SpellsHead, head_word, truth_word, SpellsBare, SpellsArguments, SpellsSteps, SpellsAt}
-use Rattle.spec_expr.specs.Grown.{Grown, bounded, lift, join, limited, limited_list, limited_steps}
-use Rattle.spec_expr.specs.Reading.{Reader, after, past, operator_at, has_no_operator, continues, is_free, by_operator, number_at, number_comma_at, head_at, headed_tree, CallKind, conjunction, disjunction, pair, choice, fixed, headed, call_of, one_deeper, grown_binary, grown_choice, leaf, closed_at, arguments_at, steps_at, call_at, read_from, dotted_at, leaf_of, number_or, grown_leaf, beside_at, primary_at, unary_at, chain_at, level_at, compared_at, whole_at, expr_at}
-use Rattle.spec_expr.proofs.Parts.{same_text, other_text, left_true, right_true, neither, not_true}
+use Rattle.spec_expr.specs.Spelling.{between, called, form_of, form_looseness, looseness, IsWrapped, AreJoined, IsCalled, IsStateName, Head, negation, resized, each_of, some_of, head_word, SpellsBare, SpellsAt}
+use Rattle.spec_expr.specs.Grown.{Grown, lift, limited, limited_list, limited_steps}
+use Rattle.spec_expr.specs.Reading.{Reader, after, past, operator_at, has_no_operator, is_free, by_operator, number_at, number_comma_at, head_at, headed_tree, CallKind, conjunction, disjunction, pair, choice, fixed, headed, call_of, one_deeper, grown_binary, grown_choice, leaf, closed_at, arguments_at, steps_at, call_at, read_from, leaf_of, number_or, grown_leaf, beside_at, unary_at, chain_at, level_at, compared_at, whole_at, expr_at}
+use Rattle.spec_expr.proofs.Parts.{other_text, left_true}
 use Rattle.spec_expr.proofs.GrownLaws.{bounded_lift, limited_choice}
-use Rattle.spec_expr.proofs.Sound.{bare, binary_limited}
+use Rattle.spec_expr.proofs.Sound.{binary_limited}
 use Rattle.spec_expr.proofs.PrimarySound.{headed_limited}
-use Rattle.spec_expr.proofs.Complete.{text_self, no_operator_here, freer, freer_to, Apart, apart, goes, number_there, number_comma_there, kind_of, head_there, ReadsOn, Reads, expr_there, closed_there, AllRead, arguments_there, StepReads, AllSteps, round_free, comma_free, steps_there}
+use Rattle.spec_expr.proofs.Complete.{no_operator_here, freer, freer_to, apart, goes, number_there, number_comma_there, kind_of, head_there, ReadsOn, Reads, expr_there, closed_there, AllRead, arguments_there, StepReads, AllSteps, round_free, comma_free, steps_there}
 
 -- an operand before words that do not go on with it
 chain_stops : (most : ℕ) (operand : Reader (Grown Tree)) (j m : ℕ) (g : Grown Tree) (rest : List Text) → is_free (suc j) rest ≡ true → chain_at most operand (suc j) m g rest ≡ Some (g, rest)

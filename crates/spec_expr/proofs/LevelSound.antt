@@ -1,19 +1,19 @@
 -- What the reading of words, signs and operators gives is spelled there.
-use Rattle.std.proofs.Common.{◌≡◌, ℕ, zero, suc, ◌+◌, ◌≤◌, ◌<◌, Bool, true, false, ◌⊎◌, inl, inr, List, [], ◌∷◌, ◌++◌, length, refl, ap, sym, subst, ◌∙◌, append_assoc, append-nil, arith}
+use Rattle.std.proofs.Common.{◌≡◌, ℕ, zero, suc, ◌+◌, ◌≤◌, Bool, true, false, ◌⊎◌, inl, inr, List, [], ◌∷◌, ◌++◌, length, refl, ap, sym, subst, ◌∙◌, append_assoc, arith}
 use Rattle.std.specs.Prelude.{Option, Some, None, codes, bytes_eq, if◌then◌else◌, ◌==◌}
 use Rattle.std.proofs.lemmas.Bool.{eqb-true}
-use Rattle.spec_ast.specs.declared.kind.UnKind.TheVariants.{Minus, Complement, Not}
+use Rattle.spec_ast.specs.declared.kind.UnKind.TheVariants.{Minus, Complement}
 use Rattle.spec_ast.specs.declared.kind.BinKind.{BinKind}
 use Rattle.spec_ast.specs.Raw.{Tree, literal, truth, named, read, read_at, path, unary, binary, Trees, Steps}
 use Rattle.spec_ast.specs.Depth.{depth, depths, step_depths}
 use Rattle.spec_expr.specs.Words.{Text, is_name, number_of}
-use Rattle.spec_expr.specs.Spelling.{Form, between, called, form_of, form_looseness, looseness, IsAt, IsWrapped, AreJoined, SpellsBare, SpellsAt, SpellsExpr}
-use Rattle.spec_expr.specs.Grown.{Grown, bounded, lift, join, limited}
-use Rattle.spec_expr.specs.Reading.{Reader, after, past, lookup, operators, if_as_loose, operator_at, call_of, calls, CallKind, one_deeper, both_deeper, grown_binary, leaf, closed_at, arguments_at, steps_at, call_at, read_from, dotted_at, number_or, leaf_of, grown_leaf, beside_at, primary_at, unary_at, by_operator, chain_at, level_at, compared_at, whole_at, expr_at}
-use Rattle.spec_expr.proofs.Parts.{same_text, some_is, same, after_is, past_is, EachEntry, looked_up}
+use Rattle.spec_expr.specs.Spelling.{between, form_of, form_looseness, looseness, AreJoined, SpellsBare, SpellsAt}
+use Rattle.spec_expr.specs.Grown.{Grown, bounded, lift, limited}
+use Rattle.spec_expr.specs.Reading.{Reader, after, lookup, operators, if_as_loose, operator_at, call_of, calls, CallKind, one_deeper, grown_binary, leaf, closed_at, arguments_at, steps_at, call_at, read_from, dotted_at, number_or, leaf_of, grown_leaf, beside_at, primary_at, unary_at, by_operator, chain_at, level_at, compared_at, whole_at, expr_at}
+use Rattle.spec_expr.proofs.Parts.{same_text, some_is, same, after_is, EachEntry, looked_up}
 use Rattle.spec_expr.proofs.GrownLaws.{bounded_lift}
-use Rattle.spec_expr.proofs.Sound.{FoundAt, IsSound, bare, chained, chained_to, ClosedBy, closed_sound, binary_limited, FoundArguments, arguments_sound}
-use Rattle.spec_expr.proofs.PrimarySound.{FoundSteps, steps_sound, IsCallWord, each_call, call_sound}
+use Rattle.spec_expr.proofs.Sound.{FoundAt, IsSound, bare, closed_sound, binary_limited, arguments_sound}
+use Rattle.spec_expr.proofs.PrimarySound.{steps_sound, IsCallWord, each_call, call_sound}
 
 abbrev Gives : Option (Grown Tree × List Text) → Grown Tree → List Text → Type 0
 Gives o g rest = o ≡ Some (g, rest)

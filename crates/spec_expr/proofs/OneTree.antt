@@ -1,12 +1,12 @@
 -- Words spell at most one expression: both are read there, built up to the depth of the deeper one.
-use Rattle.std.proofs.Common.{◌≡◌, ℕ, suc, ◌+◌, ◌≤◌, ◌<◌, Bool, true, List, [], ◌++◌, length, refl, ap, sym, ◌∙◌, append-nil, arith}
-use Rattle.std.specs.Prelude.{Option, Some, if◌then◌else◌, nat_le}
+use Rattle.std.proofs.Common.{◌≡◌, ℕ, suc, ◌+◌, ◌≤◌, List, [], length, refl, ap, sym, ◌∙◌, append-nil, arith}
+use Rattle.std.specs.Prelude.{Some}
 use Rattle.std.proofs.lemmas.Bool.{le-leb}
 use Rattle.spec_ast.specs.Raw.{Tree}
 use Rattle.spec_ast.specs.Depth.{depth}
 use Rattle.spec_expr.specs.Words.{Text}
 use Rattle.spec_expr.specs.Spelling.{SpellsExpr}
-use Rattle.spec_expr.specs.Grown.{Grown, built, too_deep, limited}
+use Rattle.spec_expr.specs.Grown.{built, limited}
 use Rattle.spec_expr.specs.Reading.{expr_at}
 use Rattle.spec_expr.proofs.Parts.{same}
 use Rattle.spec_expr.proofs.LevelComplete.{expr_complete}

@@ -1,17 +1,17 @@
 -- What the reading of a primary gives is spelled there.
-use Rattle.std.proofs.Common.{◌≡◌, ℕ, zero, suc, ◌+◌, ◌≤◌, ◌<◌, max, Bool, true, false, List, [], ◌∷◌, ◌++◌, length, refl, ap, sym, subst, ◌∙◌, append_assoc, append-nil, arith}
-use Rattle.std.specs.Prelude.{Option, Some, None, codes, bytes_eq, if◌then◌else◌}
-use Rattle.spec_ast.specs.declared.kind.UnKind.TheVariants.{Minus, Complement, Not}
+use Rattle.std.proofs.Common.{◌≡◌, ℕ, zero, suc, ◌≤◌, max, Bool, true, false, List, [], ◌∷◌, ◌++◌, refl, ap, sym, subst, ◌∙◌, append_assoc, arith}
+use Rattle.std.specs.Prelude.{Option, Some, codes, bytes_eq, if◌then◌else◌}
+use Rattle.spec_ast.specs.declared.kind.UnKind.TheVariants.{Not}
 use Rattle.spec_ast.specs.declared.kind.BinKind.{BinKind}
-use Rattle.spec_ast.specs.Raw.{Tree, literal, truth, named, read, read_at, path, unary, binary, all_of, any_of, choose, resize, sized, for_all, exists, Trees, no_trees, tree_and, Step, element, member, Steps, no_steps, step_and}
+use Rattle.spec_ast.specs.Raw.{Tree, unary, binary, all_of, any_of, choose, resize, sized, for_all, exists, Trees, element, member, Steps, no_steps, step_and}
 use Rattle.spec_ast.specs.Depth.{depth, depths, step_depths}
-use Rattle.spec_expr.specs.Words.{Text, is_name, number_of, member_of}
-use Rattle.spec_expr.specs.Spelling.{Form, between, called, form_of, form_looseness, looseness, IsAt, AreJoined, IsCalled, Head, negation, resized, each_of, some_of, SpellsHead, head_word, SpellsBare, SpellsArguments, SpellsSteps, SpellsAt}
-use Rattle.spec_expr.specs.Grown.{Grown, bounded, lift, join, limited, limited_list, limited_steps}
-use Rattle.spec_expr.specs.Reading.{Reader, after, past, number_at, number_comma_at, member_at, head_at, headed_tree, CallKind, conjunction, disjunction, pair, choice, fixed, headed, calls, call_of, one_deeper, both_deeper, grown_binary, grown_choice, leaf, closed_at, arguments_at, steps_at, call_at, read_from, dotted_at, number_or, leaf_of, grown_leaf, beside_at, primary_at}
-use Rattle.spec_expr.proofs.Parts.{same_text, some_is, same, after_is, past_is, with_rest_is, EachEntry, looked_up}
+use Rattle.spec_expr.specs.Words.{Text, member_of}
+use Rattle.spec_expr.specs.Spelling.{called, form_of, form_looseness, looseness, AreJoined, IsCalled, Head, negation, resized, each_of, some_of, head_word, SpellsBare, SpellsSteps, SpellsAt}
+use Rattle.spec_expr.specs.Grown.{Grown, bounded, lift, join, limited, limited_steps}
+use Rattle.spec_expr.specs.Reading.{Reader, after, past, number_at, number_comma_at, member_at, head_at, headed_tree, CallKind, conjunction, disjunction, pair, choice, fixed, headed, calls, one_deeper, grown_binary, grown_choice, leaf, closed_at, arguments_at, steps_at, call_at}
+use Rattle.spec_expr.proofs.Parts.{same_text, same, after_is, past_is, with_rest_is, EachEntry}
 use Rattle.spec_expr.proofs.GrownLaws.{bounded_lift, bounded_join, limited_choice}
-use Rattle.spec_expr.proofs.Sound.{FoundAt, IsSound, bare, chained, chained_to, ClosedBy, closed_sound, binary_limited, FoundArguments, arguments_sound, number_sound, number_comma_sound, kind_word, FoundHead, head_sound}
+use Rattle.spec_expr.proofs.Sound.{FoundAt, IsSound, bare, chained_to, closed_sound, binary_limited, arguments_sound, number_sound, number_comma_sound, kind_word, head_sound}
 
 pub record FoundSteps (most : ℕ) (ts : List Text) (g : Grown Steps) (rest : List Text) : Type 0 where
   pub ss : Steps

@@ -1,18 +1,16 @@
 -- What the parts of the reading give is spelled there.
-use Rattle.std.proofs.Common.{◌≡◌, ℕ, zero, suc, ◌+◌, ◌≤◌, ◌<◌, max, Bool, true, false, ◌⊎◌, inl, inr, List, [], ◌∷◌, ◌++◌, length, refl, ap, sym, subst, ◌∙◌, append_assoc, append-nil, arith}
-use Rattle.std.specs.Prelude.{Option, Some, None, codes, bytes_eq, if◌then◌else◌, ◌==◌}
-use Rattle.std.proofs.lemmas.Bool.{eqb-true}
-use Rattle.spec_ast.specs.declared.kind.UnKind.TheVariants.{Minus, Complement, Not}
+use Rattle.std.proofs.Common.{◌≡◌, ℕ, zero, suc, ◌≤◌, max, Bool, true, false, List, [], ◌∷◌, ◌++◌, length, refl, ap, sym, subst, ◌∙◌, append_assoc, arith}
+use Rattle.std.specs.Prelude.{Option, Some, None, codes, bytes_eq, if◌then◌else◌}
 use Rattle.spec_ast.specs.declared.kind.BinKind.{BinKind}
 use Rattle.spec_ast.specs.declared.raw.RawResize.TheVariants.{ZeroExt, SignExt, Extract}
-use Rattle.spec_ast.specs.Raw.{Tree, literal, truth, named, read, read_at, path, unary, binary, all_of, any_of, choose, resize, sized, for_all, exists, Trees, no_trees, tree_and, Step, element, member, Steps, no_steps, step_and}
-use Rattle.spec_ast.specs.Depth.{depth, depths, step_depths}
-use Rattle.spec_expr.specs.Words.{Text, is_name, number_of, member_of}
-use Rattle.spec_expr.specs.Spelling.{Form, between, called, form_of, form_looseness, looseness, IsAt, AreMoreNames, AreNames, Head, negation, resized, each_of, some_of, SpellsBound, SpellsHead, head_word, SpellsBare, SpellsArguments, SpellsMore, SpellsSteps, SpellsAt}
-use Rattle.spec_expr.specs.Grown.{Grown, bounded, lift, join, limited, limited_list, limited_steps}
-use Rattle.spec_expr.specs.Reading.{Reader, after, past, lookup, with_rest, number_at, number_comma_at, member_at, name_at, more_names_at, names_at, bound_at, HeadKind, negated, widened, sign_widened, cut, every, any, head_at, headed_tree, CallKind, conjunction, disjunction, pair, choice, fixed, headed, calls, call_of, one_deeper, both_deeper, grown_binary, grown_choice, grown_and, leaf, closed_at, more_at, arguments_at, steps_at, call_at}
-use Rattle.spec_expr.proofs.Parts.{same_text, some_is, Same, same, After, after_is, Past, past_is, WithRest, with_rest_is, EachEntry, looked_up}
-use Rattle.spec_expr.proofs.GrownLaws.{bounded_lift, bounded_join, limited_choice}
+use Rattle.spec_ast.specs.Raw.{Tree, binary, Trees, no_trees, tree_and}
+use Rattle.spec_ast.specs.Depth.{depth, depths}
+use Rattle.spec_expr.specs.Words.{Text, is_name, number_of}
+use Rattle.spec_expr.specs.Spelling.{looseness, AreMoreNames, AreNames, Head, negation, resized, each_of, some_of, SpellsBound, SpellsHead, head_word, SpellsBare, SpellsArguments, SpellsMore, SpellsAt}
+use Rattle.spec_expr.specs.Grown.{Grown, bounded, limited, limited_list}
+use Rattle.spec_expr.specs.Reading.{Reader, after, past, number_at, number_comma_at, name_at, more_names_at, names_at, bound_at, HeadKind, negated, widened, sign_widened, cut, every, any, head_at, both_deeper, grown_binary, grown_and, closed_at, more_at, arguments_at}
+use Rattle.spec_expr.proofs.Parts.{same_text, same, after_is, past_is, with_rest_is}
+use Rattle.spec_expr.proofs.GrownLaws.{bounded_join}
 
 pub record FoundAt (most place : ℕ) (ts : List Text) (g : Grown Tree) (rest : List Text) : Type 0 where
   pub e : Tree

@@ -5,9 +5,9 @@ use Rattle.spec_ast.specs.declared.kind.UnKind.TheVariants.{Minus, Complement, N
 use Rattle.spec_ast.specs.declared.kind.BinKind.{BinKind}
 use Rattle.spec_ast.specs.declared.kind.BinKind.TheVariants.{Mul, Add, Sub, Shl, Ashr, Lshr, BitAnd, BitXor, BitOr, Udiv, Urem, Eq, Ne, Slt, Sle, Sgt, Sge, Ult, Ule, Ugt, Uge, Implies}
 use Rattle.spec_ast.specs.declared.raw.RawResize.TheVariants.{ZeroExt, SignExt, Extract}
-use Rattle.spec_ast.specs.Raw.{Tree, literal, truth, named, read, read_at, path, unary, binary, all_of, any_of, choose, resize, sized, for_all, exists, Trees, no_trees, tree_and, Step, element, member, Steps, no_steps, step_and}
+use Rattle.spec_ast.specs.Raw.{Tree, literal, truth, named, read, read_at, path, unary, binary, all_of, any_of, choose, resize, sized, for_all, exists, Trees, no_trees, tree_and, element, member, Steps, no_steps, step_and}
 use Rattle.spec_expr.specs.Words.{Text, is_name, number_of, member_of}
-use Rattle.spec_expr.specs.Spelling.{Form, between, called, form_of, form_looseness, Head, negation, resized, each_of, some_of}
+use Rattle.spec_expr.specs.Spelling.{form_of, form_looseness, Head, negation, resized, each_of, some_of}
 use Rattle.spec_expr.specs.Grown.{Grown, bounded, lift, join}
 
 abbrev pub Reader : Type 0 → Type 0

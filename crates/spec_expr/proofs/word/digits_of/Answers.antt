@@ -1,4 +1,4 @@
-use Rattle.std.proofs.Common.{◌+◌, ◌*◌, ◌<◌, ◌≤◌, ◌^◌, sym, subst, ◌∙◌, arith}
+use Rattle.std.proofs.Common.{◌+◌, ◌*◌, ◌<◌, ◌≤◌, ◌^◌, sym, subst, ◌∙◌}
 use Rattle.spec_expr.proofs.Digits.{no_room, number_too_large}
 use Rattle.spec_expr.proofs.word.digits_of.Goals as goal
 
