@@ -1,0 +1,5 @@
+pub mod Words
+pub mod Spelling
+pub mod Grown
+pub mod Reading
+pub mod Laws

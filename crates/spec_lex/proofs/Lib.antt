@@ -1,0 +1,5 @@
+pub mod Rows
+pub mod Finding
+pub mod RowLaws
+pub mod LineLaws
+pub mod FaultLaws

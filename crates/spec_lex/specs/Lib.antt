@@ -1,0 +1,9 @@
+pub mod Token
+pub mod Bytes
+pub mod Lines
+pub mod Faults
+pub mod Within
+pub mod Rest
+pub mod Reading
+pub mod Answers
+pub mod Laws
