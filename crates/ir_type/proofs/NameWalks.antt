@@ -1,6 +1,6 @@
 -- Walks over the names of types are walks over their places.
 use Rattle.std.proofs.Common.{◌≡◌, ◌⊎◌, inl, inr, ℕ, zero, suc, ◌+◌, ◌<◌, ◌≤◌, Bool, true, false, Option, Some, None, option_map, List, [], ◌∷◌, ◌++◌, length, map, take, refl, sym, ◌∙◌, ap, subst, arith}
-use Rattle.std.specs.Prelude.{slice_get, slice_index_or, option_to_list, bytes_eq, unwrap_or}
+use Rattle.std.specs.Prelude.{slice_get, slice_index_or, option_to_list, bytes_eq}
 use Rattle.std.specs.List.{Contains, IsDistinct}
 use Rattle.std.proofs.lemmas.Bool.{cases_lt}
 use Rattle.std.proofs.lemmas.List.{get_or_past, length-map, take_more}
@@ -11,7 +11,7 @@ use Rattle.ir_ast.specs.ProgramView.{view_entries}
 use Rattle.ir_ast.specs.Table.{names_of, place_of}
 use Rattle.hk_graph.specs.Walks.{Walks, Leads, IsOnCycle, HasEdge, AreWithin, targets_of}
 use Rattle.hk_graph.specs.Sorted.{IsAnswer, IsOrder, flag_of}
-use Rattle.ir_type.specs.Names.{entry_of, names_in}
+use Rattle.ir_type.specs.Names.{names_in}
 use Rattle.ir_type.specs.Whole.{Types}
 use Rattle.ir_type.specs.Cycles.{entry_names, Spells, places_of, places_in, graph_of, name_at, SaysCyclic}
 use Rattle.ir_type.proofs.Places.{StandsAt, at_place, no_place, place_there, place_below, get_below, some_same}
@@ -65,7 +65,7 @@ module _ (types : Types) where
 
   module _ (distinct : IsDistinct bytes_eq (names_of types)) where
     -- the entry at a place, under its name
-    entry_at : (p : ℕ) → p < length types → (e : TypeView) × StandsAt types p (name_at types p) e × (place_of (name_at types p) types ≡ Some p)
+    pub entry_at : (p : ℕ) → p < length types → (e : TypeView) × StandsAt types p (name_at types p) e × (place_of (name_at types p) types ≡ Some p)
     entry_at p l = whole (exists_at types p l)
       where
         whole : (a : List ℕ × TypeView) × (slice_get types p ≡ Some a) → (e : TypeView) × StandsAt types p (name_at types p) e × (place_of (name_at types p) types ≡ Some p)
@@ -78,7 +78,7 @@ module _ (types : Types) where
     targets_at : (p : ℕ) (e : TypeView) → slice_get types p ≡ Some (name_at types p, e) → targets_of (graph_of types) p ≡ places_in types e.over
     targets_at p e there = mapped_at (λ e. places_in types e.1.over) types p [] (name_at types p, e) there
 
-    name_of_place : (x : List ℕ) (q : ℕ) → place_of x types ≡ Some q → name_at types q ≡ x
+    pub name_of_place : (x : List ℕ) (q : ℕ) → place_of x types ≡ Some q → name_at types q ≡ x
     name_of_place x q h = let s = at_place types x q h in mapped_at (λ entry. entry.0) types q [] (x, s.0) s.1.there
 
     pub edge_spells : (p q : ℕ) → p < length types → HasEdge (graph_of types) p q → Spells types (name_at types p) (name_at types q) × (q < length types)

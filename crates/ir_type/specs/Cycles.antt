@@ -1,5 +1,5 @@
 -- Names of types that stand for none: a type that contains itself has no size (LLVM Language Reference, "Structure Type").
-use Rattle.std.specs.Prelude.{◌≡◌, ℕ, ◌<◌, ◌⊎◌, Bool, true, false, Option, Some, None, option_to_list, List, [], length, map, flat_map, slice_index_or}
+use Rattle.std.specs.Prelude.{◌≡◌, ℕ, ◌⊎◌, Bool, true, false, Option, Some, None, option_to_list, List, [], map, flat_map, slice_index_or}
 use Rattle.std.specs.List.{Contains}
 use Rattle.ir_ast.specs.Plain.{Ty, opaque}
 use Rattle.ir_ast.specs.Program.{TypeView}
