@@ -1,0 +1,4 @@
+pub mod Entering
+pub mod Joining
+pub mod Leaving
+pub mod Stepping

@@ -1,0 +1,5 @@
+pub mod Walks
+pub mod Sorted
+pub mod Search
+pub mod Invariant
+pub mod Follow

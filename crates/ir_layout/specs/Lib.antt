@@ -1,0 +1,4 @@
+pub mod Bytes
+pub mod Sizes
+pub mod Facts
+pub mod Rules
