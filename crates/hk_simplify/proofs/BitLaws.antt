@@ -1,5 +1,5 @@
 -- Laws of the operations on bits with a known operand, at any width.
-use Rattle.std.proofs.Common.{◌≡◌, ◌+◌, ◌-◌, ◌*◌, ◌%◌, ◌^◌, ◌<◌, ◌≤◌, ℕ, arith, ap, sym, ◌∙◌, bit_and, bit_or, bit_xor}
+use Rattle.std.proofs.Common.{◌≡◌, ◌-◌, ◌^◌, ◌<◌, ℕ, arith, ap, sym, ◌∙◌, bit_and, bit_or, bit_xor}
 use Rattle.std.proofs.Math.Nat.{mod-eq_of_lt}
 use Rattle.std.proofs.lemmas.Nat.{and_mask, and-not, and_comm, and_le_r, or_comm, xor_comm}
 use Rattle.std.specs.Int.Bits.{and_self, or_self, or_add_and, xor_add_and}

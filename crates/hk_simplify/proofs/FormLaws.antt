@@ -1,10 +1,10 @@
 -- A node over a part that was put into the list before it.
-use Rattle.std.proofs.Common.{◌≡◌, ℕ, ◌+◌, ◌<◌, ◌≤◌, ◌++◌, Bool, false, List, length, arith, refl, sym, ◌∙◌, ap, subst}
+use Rattle.std.proofs.Common.{◌≡◌, ℕ, ◌+◌, ◌<◌, ◌≤◌, ◌++◌, false, List, length, arith, refl, sym, ◌∙◌, ap, subst}
 use Rattle.std.proofs.lemmas.List.{append_assoc}
 use Rattle.hk_term.specs.Operations.{binary_value, binary_width, BinaryFits, resize_value, ResizeFits}
 use Rattle.hk_term.specs.Shape.{NodeFits, node_width, width, Grows}
 use Rattle.hk_term.specs.Meaning.{Reading, node_value, value}
-use Rattle.hk_term.specs.Inputs.{is_input, inputs_in}
+use Rattle.hk_term.specs.Inputs.{is_input}
 use Rattle.hk_term.specs.declared.node.Node.{Node}
 use Rattle.hk_simplify.specs.Adding.{Adds}
 use Rattle.hk_simplify.specs.Forms.{OuterFits, outer_width, outer_value, outer_node}

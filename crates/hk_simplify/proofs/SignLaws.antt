@@ -1,8 +1,7 @@
 -- Laws of the bits of a number that was extended by copies of its sign.
-use Rattle.std.proofs.Common.{◌≡◌, ◌+◌, ◌-◌, ◌*◌, ◌/◌, ◌%◌, ◌^◌, ◌<◌, ◌≤◌, ◌⊎◌, ℕ, suc, ℤ, pos, negsuc, arith, ap, sym, ◌∙◌, subst, refl, inl, inr}
+use Rattle.std.proofs.Common.{◌≡◌, ◌+◌, ◌-◌, ◌*◌, ◌/◌, ◌%◌, ◌^◌, ◌<◌, ◌≤◌, ◌⊎◌, ℕ, suc, ℤ, pos, negsuc, arith, ap, sym, ◌∙◌, subst, inl, inr}
 use Rattle.std.specs.Int.{int_div_euclid}
-use Rattle.std.proofs.Math.Nat.{mod-lt, mod-eq_of_lt, div-add-mod', div-le_self, div-lt_iff_lt-mul}
-use Rattle.std.proofs.Math.Pow.{pow_mono}
+use Rattle.std.proofs.Math.Nat.{mod-lt, mod-eq_of_lt, div-add-mod', div-lt_iff_lt-mul}
 use Rattle.std.proofs.lemmas.Bool.{cases_lt}
 use Rattle.std.proofs.lemmas.Nat.{pow_pos, pow-add, shr_high, field_of}
 use Rattle.hk_num.specs.Numbers.{signed_of, number_of, sign_extend}

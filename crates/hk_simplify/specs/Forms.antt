@@ -1,5 +1,5 @@
 -- How a term is had: it stands in the list, or its node has yet to be put there, or that of a part of it and then its own.
-use Rattle.std.specs.Prelude.{◌≡◌, ℕ, ◌<◌, Bool, false, List, length}
+use Rattle.std.specs.Prelude.{◌≡◌, ℕ, ◌<◌, false, List, length}
 use Rattle.hk_term.specs.Operations.{binary_value, binary_width, BinaryFits, resize_value, ResizeFits}
 use Rattle.hk_term.specs.Shape.{NodeFits, node_width, width}
 use Rattle.hk_term.specs.Meaning.{Reading, node_value, value}

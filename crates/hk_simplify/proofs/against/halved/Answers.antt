@@ -1,4 +1,4 @@
-use Rattle.std.proofs.Common.{◌≡◌, ◌-◌, ◌^◌, ap, ◌∙◌, bit_and, sym}
+use Rattle.std.proofs.Common.{◌-◌, ◌^◌, ap, ◌∙◌, bit_and}
 use Rattle.hk_term.specs.Shape.{width}
 use Rattle.hk_simplify.proofs.NumberLaws.{high_below, halves_value}
 use Rattle.hk_simplify.proofs.against.halved.Goals as goal

@@ -1,4 +1,4 @@
-use Rattle.std.proofs.Common.{◌≡◌, ◌-◌, ◌^◌, ap, sym, ◌∙◌, bit_and}
+use Rattle.std.proofs.Common.{ap, ◌∙◌, bit_and}
 use Rattle.hk_term.specs.Shape.{width}
 use Rattle.hk_term.specs.Meaning.{value}
 use Rattle.hk_simplify.proofs.NumberLaws.{urem_power}

@@ -1,4 +1,4 @@
-use Rattle.std.proofs.Common.{◌≡◌, ◌∙◌, ap, sym}
+use Rattle.std.proofs.Common.{◌∙◌, ap, sym}
 use Rattle.hk_simplify.specs.Forms.{form_value}
 use Rattle.hk_num.proofs.Words.{shifted_off}
 use Rattle.hk_term.specs.Shape.{width}

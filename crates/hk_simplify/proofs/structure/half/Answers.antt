@@ -1,5 +1,3 @@
-use Rattle.std.proofs.Common.{◌≡◌, ◌<◌, ◌≤◌, ◌^◌, ◌+◌, arith}
-use Rattle.hk_term.specs.Meaning.{value}
 use Rattle.hk_simplify.proofs.PartLaws.{lower_bits, upper_bits}
 use Rattle.hk_simplify.proofs.structure.half.Goals as goal
 

@@ -1,6 +1,4 @@
-use Rattle.std.proofs.Common.{◌≡◌, ◌∙◌, ◌+◌, ◌/◌, ◌%◌, ◌^◌, ◌<◌, ◌≤◌, arith, ap, sym}
-use Rattle.hk_term.specs.Shape.{width}
-use Rattle.hk_term.specs.Meaning.{value}
+use Rattle.std.proofs.Common.{◌∙◌, ◌/◌, ◌%◌, ◌^◌, arith, ap, sym}
 use Rattle.hk_simplify.proofs.PartLaws.{extracted_bits, extended_bits}
 use Rattle.hk_simplify.proofs.structure.inside.Goals as goal
 

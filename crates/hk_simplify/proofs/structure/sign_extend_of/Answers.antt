@@ -1,6 +1,4 @@
-use Rattle.std.proofs.Common.{◌≡◌, ◌∙◌, ◌+◌, ◌/◌, ◌%◌, ◌^◌, ◌<◌, ◌≤◌, arith, ap, sym, refl}
-use Rattle.hk_term.specs.Shape.{width}
-use Rattle.hk_term.specs.Meaning.{value}
+use Rattle.std.proofs.Common.{◌∙◌, arith, refl}
 use Rattle.hk_simplify.proofs.PartLaws.{sign_of_sign, sign_of_zeros}
 use Rattle.hk_simplify.proofs.structure.sign_extend_of.Goals as goal
 

@@ -1,5 +1,4 @@
-use Rattle.std.proofs.Common.{◌≡◌, ◌<◌, ◌^◌, ap, sym, ◌∙◌, rules}
-use Rattle.hk_term.specs.Shape.{width}
+use Rattle.std.proofs.Common.{◌≡◌, ap, ◌∙◌, rules}
 use Rattle.hk_term.specs.Meaning.{value}
 use Rattle.hk_simplify.proofs.SumLaws.{rest_first, rest_second}
 use Rattle.hk_simplify.proofs.sums.rest_of.Goals as goal
