@@ -1,23 +1,23 @@
 -- Whatever line words spell at a place is the one that is read there; so they spell at most one.
-use Rattle.std.proofs.Common.{◌≡◌, ℕ, zero, suc, ◌+◌, ◌≤◌, ◌<◌, max, Bool, true, false, not, ◌&&◌, ◌⊎◌, inl, inr, List, [], ◌∷◌, ◌++◌, length, length-append, refl, ap, sym, subst, ◌∙◌, append_assoc, append-nil, arith}
-use Rattle.std.specs.Prelude.{Option, Some, None, ℤ, pos, neg_ℤ, nat_le, codes, bytes_eq, if◌then◌else◌}
+use Rattle.std.proofs.Common.{◌≡◌, ℕ, zero, suc, ◌+◌, ◌≤◌, ◌<◌, max, Bool, true, false, inl, inr, List, [], ◌∷◌, ◌++◌, length, length-append, refl, ap, sym, ◌∙◌, append_assoc, append-nil, arith}
+use Rattle.std.specs.Prelude.{Option, Some, None, pos, neg_ℤ, codes, bytes_eq, if◌then◌else◌}
 use Rattle.std.proofs.lemmas.Bool.{le-leb}
 use Rattle.spec_ast.specs.declared.raw.RawSort.{RawSort}
 use Rattle.spec_ast.specs.declared.raw.RawSort.TheVariants.{Named, Bits, Index}
 use Rattle.spec_ast.specs.Raw.{Tree, Trees, read_at, Item, sort_line, constant_line, hook_line, class_line, field_line, def_line, var_line, let_line, copy_line, write_line, return_line, end_line}
 use Rattle.spec_ast.specs.Depth.{depth, depths}
-use Rattle.spec_expr.specs.Words.{Text, is_name, number_of}
-use Rattle.spec_expr.specs.Spelling.{IsNumber, IsStateName, SpellsAt, SpellsExpr, SpellsArguments}
-use Rattle.spec_expr.specs.Grown.{Grown, built, bounded, lift, join, limited, limited_list}
-use Rattle.spec_expr.specs.Reading.{Reader, after, past, number_at, number_comma_at, name_at, more_at, arguments_at, grown_and, one_deeper, call_of, operator_at, unary_at, chain_at, level_at, whole_at, compared_at, expr_at}
-use Rattle.spec_expr.proofs.Complete.{text_self, goes, number_there, number_comma_there, name_there, expr_there, arguments_there, square_free, comma_free}
-use Rattle.spec_expr.proofs.LevelComplete.{name_other, number_other, reads, all_read, expr_complete, dotted_there}
+use Rattle.spec_expr.specs.Words.{Text, is_name}
+use Rattle.spec_expr.specs.Spelling.{IsStateName, SpellsExpr}
+use Rattle.spec_expr.specs.Grown.{Grown, built, lift, join, limited, limited_list}
+use Rattle.spec_expr.specs.Reading.{Reader, after, past, number_at, number_comma_at, name_at, more_at, arguments_at, grown_and, one_deeper, call_of, operator_at, unary_at, chain_at, level_at, compared_at, expr_at}
+use Rattle.spec_expr.proofs.Complete.{goes, number_there, number_comma_there, name_there, arguments_there, square_free, comma_free}
+use Rattle.spec_expr.proofs.LevelComplete.{name_other, number_other, all_read, expr_complete, dotted_there}
 use Rattle.spec_expr.proofs.OneTree.{kept}
 use Rattle.spec_expr.proofs.Parts.{same_text}
 use Rattle.spec_expr.proofs.GrownLaws.{bounded_join}
-use Rattle.spec_read.specs.Places.{Function, handler, Place, top, class_body, body_of, nowhere, function_of, is_handler}
+use Rattle.spec_read.specs.Places.{Function, Place, top, class_body, body_of, nowhere, function_of, is_handler}
 use Rattle.spec_read.specs.Items.{SpellsNewSort, SpellsSort, AreMoreSorts, SpellsKeys, AreMoreParameters, AreParameters, IsIn, IsInHandler, IsInOther, SpellsItem}
-use Rattle.spec_read.specs.ItemReading.{follows, at_end, or_else, begins_round, new_sort_at, sort_at, more_sorts_at, few_keys, keys_at, more_parameters_at, parameters_at, plain, constant_of, top_value, top_from, class_from, def_with, def_from, top_at, map_from, field_from, class_at, same_depth, expr_end, let_from, var_from, copy_from, assigned_at, write_value, write_from, result_from, return_from, statement_from, body_at, item_at, limited_item}
+use Rattle.spec_read.specs.ItemReading.{follows, at_end, or_else, begins_round, new_sort_at, sort_at, more_sorts_at, few_keys, keys_at, more_parameters_at, parameters_at, plain, constant_of, top_from, class_from, def_with, def_from, top_at, field_from, class_at, same_depth, expr_end, let_from, var_from, copy_from, write_value, result_from, return_from, statement_from, body_at, item_at, limited_item}
 
 goes_on : {A B : Type 0} (o : Option (A × List Text)) (on : A → List Text → Option B) (a : A) (rest : List Text) → o ≡ Some (a, rest) → follows o on ≡ on a rest
 goes_on o on a rest is = ap (λ p. follows p on) is

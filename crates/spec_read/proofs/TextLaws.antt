@@ -1,5 +1,5 @@
 -- A text spells at most one raw specification, and none where it fails; and it fails at one line at most.
-use Rattle.std.proofs.Common.{◌≡◌, ℕ, ◌⊎◌, inl, inr, List, [], ◌∷◌, refl, ap, sym, subst, ◌∙◌}
+use Rattle.std.proofs.Common.{◌≡◌, ℕ, inl, inr, List, [], ◌∷◌, refl, ap, sym, subst, ◌∙◌}
 use Rattle.spec_ast.specs.declared.fault.SpecReason.{SpecReason}
 use Rattle.spec_ast.specs.declared.fault.SpecReason.TheVariants.{S3, S4}
 use Rattle.spec_ast.specs.Raw as raw

@@ -1,8 +1,8 @@
 -- How a line is read, at its place: by its first words, and an expression or sort up to its end.
-use Rattle.std.specs.Prelude.{ℕ, zero, suc, ◌+◌, ◌≤◌, ℤ, pos, neg_ℤ, max, nat_le, Bool, true, false, ◌&&◌, if◌then◌else◌, Option, Some, None, List, [], ◌∷◌, length, drop, codes, bytes_eq}
+use Rattle.std.specs.Prelude.{ℕ, zero, suc, ℤ, pos, neg_ℤ, max, nat_le, Bool, false, ◌&&◌, if◌then◌else◌, Option, Some, None, List, [], ◌∷◌, length, drop, codes, bytes_eq}
 use Rattle.spec_ast.specs.declared.raw.RawSort.{RawSort}
 use Rattle.spec_ast.specs.declared.raw.RawSort.TheVariants.{Named, Bits, Index}
-use Rattle.spec_ast.specs.Raw.{Tree, Trees, Item, sort_line, constant_line, hook_line, class_line, field_line, def_line, var_line, let_line, copy_line, write_line, return_line, end_line}
+use Rattle.spec_ast.specs.Raw.{Tree, Item, sort_line, constant_line, hook_line, class_line, field_line, def_line, var_line, let_line, copy_line, write_line, return_line, end_line}
 use Rattle.spec_expr.specs.Words.{Text, is_name, number_of}
 use Rattle.spec_expr.specs.Grown.{Grown, built, lift, join, limited, limited_list}
 use Rattle.spec_expr.specs.Reading.{Reader, after, past, number_at, number_comma_at, name_at, arguments_at, expr_at}

@@ -1,11 +1,11 @@
 -- How the lines of a specification are spelled, in the printing direction: one production each, with the place where it may stand.
-use Rattle.std.specs.Prelude.{◌≡◌, ℕ, pos, neg_ℤ, ◌≤◌, true, false, ◌⊎◌, Option, Some, None, List, [], ◌∷◌, ◌++◌, length, codes}
+use Rattle.std.specs.Prelude.{◌≡◌, ℕ, pos, neg_ℤ, ◌≤◌, true, false, ◌⊎◌, Some, None, List, [], ◌∷◌, ◌++◌, length, codes}
 use Rattle.spec_ast.specs.declared.raw.RawSort.{RawSort}
 use Rattle.spec_ast.specs.declared.raw.RawSort.TheVariants.{Named, Bits, Index}
 use Rattle.spec_ast.specs.Raw.{Item, sort_line, constant_line, hook_line, class_line, field_line, def_line, var_line, let_line, copy_line, write_line, return_line, end_line}
 use Rattle.spec_expr.specs.Words.{Text, is_name}
 use Rattle.spec_expr.specs.Spelling.{IsNumber, SpellsExpr, SpellsArguments}
-use Rattle.spec_read.specs.Places.{Function, handler, Place, top, class_body, body_of, nowhere, function_of, is_handler}
+use Rattle.spec_read.specs.Places.{Function, Place, top, class_body, body_of, function_of, is_handler}
 
 -- `Bits ( n )`, `Index ( w , n )`
 abbrev pub SpellsNewSort : RawSort → List Text → Type 0

@@ -1,5 +1,5 @@
 -- The kinds of functions by their names and parameters, and the places of lines.
-use Rattle.std.specs.Prelude.{ℕ, Bool, true, false, not, ◌&&◌, ◌||◌, if◌then◌else◌, ◌==◌, Option, Some, None, List, [], ◌∷◌, drop, length, codes, bytes_eq}
+use Rattle.std.specs.Prelude.{Bool, true, false, not, ◌&&◌, ◌||◌, if◌then◌else◌, ◌==◌, Option, Some, None, List, [], ◌∷◌, drop, length, codes, bytes_eq}
 use Rattle.spec_expr.specs.Words.{Text, begins_with}
 
 -- what the name of a function says of it; invariants and properties are printed without the prefix
