@@ -64,7 +64,7 @@ pub number_comma_there : (n : ℕ) (t : Text) (rest : List Text) → IsNumber n 
 number_comma_there n t rest is =
     goes {A = ℕ} {B = ℕ} (number_at (t ∷ codes "," ∷ rest)) (λ n r. past (codes ",") r (λ r. Some (n, r))) n (codes "," ∷ rest) (number_there n t (codes "," ∷ rest) is)
 
-name_there : (x : Text) (rest : List Text) → is_name x ≡ true → name_at (x ∷ rest) ≡ Some (x, rest)
+pub name_there : (x : Text) (rest : List Text) → is_name x ≡ true → name_at (x ∷ rest) ≡ Some (x, rest)
 name_there x rest is = rw is refl
 
 more_names_there : (xs : List Text) (front rest : List Text) (m : ℕ) → AreMoreNames xs front → length front ≤ m → more_names_at m (front ++ rest) ≡ Some (xs, rest)
@@ -201,7 +201,7 @@ steps_end most n zero rest free = refl
 steps_end most n (suc m) [] free = refl
 steps_end most n (suc m) (t ∷ ts) free = let a = apart t ts free in rw (a.square, a.dot) refl
 
-square_free : (r : List Text) → is_free 7 (codes "]" ∷ r) ≡ true
+pub square_free : (r : List Text) → is_free 7 (codes "]" ∷ r) ≡ true
 unfolding has_no_operator operator_at
 square_free r = refl
 

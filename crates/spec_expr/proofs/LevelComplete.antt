@@ -25,7 +25,7 @@ chain_stops most operand j zero g rest free = refl
 chain_stops most operand j (suc m) g [] free = refl
 chain_stops most operand j (suc m) g (t ∷ ts) free = let none : operator_at (suc j) t ≡ None = no_operator_here j t ts free in rw none refl
 
-level_up : (most : ℕ) (inner : Reader (Grown Tree)) (j : ℕ) (ts : List Text) (g : Grown Tree) (rest : List Text) → level_at most inner j ts ≡ Some (g, rest) →
+pub level_up : (most : ℕ) (inner : Reader (Grown Tree)) (j : ℕ) (ts : List Text) (g : Grown Tree) (rest : List Text) → level_at most inner j ts ≡ Some (g, rest) →
     level_at most inner (suc j) ts ≡ chain_at most (level_at most inner j) (suc j) (length rest) g rest
 unfolding level_at
 level_up most inner j ts g rest is = goes {A = Grown Tree} {B = Grown Tree} (level_at most inner j ts) (λ a r. chain_at most (level_at most inner j) (suc j) (length r) a r) g rest is
@@ -164,10 +164,10 @@ word_begins : (most n : ℕ) (t : Text) (ts : List Text) → bytes_eq t (codes "
 unfolding level_at unary_at
 word_begins most n t ts minus tilde round = rw (minus, tilde, round) refl
 
-name_other : (x w : Text) → is_name w ≡ false → is_name x ≡ true → bytes_eq x w ≡ false
+pub name_other : (x w : Text) → is_name w ≡ false → is_name x ≡ true → bytes_eq x w ≡ false
 name_other x w none name = other_text x w (λ same. let n : is_name x ≡ false = subst (λ t. is_name t ≡ false) (sym same) none in cc)
 
-number_other : (n : ℕ) (t w : Text) → number_of w ≡ None → number_of t ≡ Some n → bytes_eq t w ≡ false
+pub number_other : (n : ℕ) (t w : Text) → number_of w ≡ None → number_of t ≡ Some n → bytes_eq t w ≡ false
 number_other n t w none number = other_text t w (λ same. let m : number_of t ≡ None = subst (λ u. number_of u ≡ None) (sym same) none in cc)
 
 name_begins : (most n : ℕ) (x : Text) (ts : List Text) → is_name x ≡ true → level_at most (expr_at most n) 0 (x ∷ ts) ≡ beside_at most (expr_at most n) x ts
@@ -207,11 +207,11 @@ pub base_named : (most : ℕ) (x : Text) → Base most (named x)
 base_named most x k front rest (name, parts) short free =
     ap (λ f. level_at most (expr_at most k) 0 (f ++ rest)) parts ∙ name_begins most k x rest name ∙ leaf_stands most (expr_at most k) x rest (named x) free (named_leaf x name)
 
-read_stands : (most : ℕ) (inner : Reader (Grown Tree)) (s f : Text) (rest : List Text) → is_free 0 rest ≡ true → read_from most inner s f rest ≡ Some (leaf most (read s f), rest)
+pub read_stands : (most : ℕ) (inner : Reader (Grown Tree)) (s f : Text) (rest : List Text) → is_free 0 rest ≡ true → read_from most inner s f rest ≡ Some (leaf most (read s f), rest)
 read_stands most inner s f [] free = refl
 read_stands most inner s f (u ∷ rest) free = let a = apart u rest free in rw a.round refl
 
-dotted_there : (most n : ℕ) (s f : Text) (ts : List Text) → IsStateName s → is_name f ≡ true → level_at most (expr_at most n) 0 (s ∷ codes "." ∷ f ∷ ts) ≡ read_from most (expr_at most n) s f ts
+pub dotted_there : (most n : ℕ) (s f : Text) (ts : List Text) → IsStateName s → is_name f ≡ true → level_at most (expr_at most n) 0 (s ∷ codes "." ∷ f ∷ ts) ≡ read_from most (expr_at most n) s f ts
 dotted_there most n s f ts (name, other) field = name_begins most n s (codes "." ∷ f ∷ ts) name ∙ rw (field, other, name) refl
 
 pub base_read : (most : ℕ) (s f : Text) → Base most (read s f)
@@ -553,7 +553,7 @@ mutual
   reads most (for_all xs a) = reads_headed most (each_of xs) a (reads most a)
   reads most (exists xs a) = reads_headed most (some_of xs) a (reads most a)
 
-  all_read : (most : ℕ) (es : Trees) → AllRead most es
+  pub all_read : (most : ℕ) (es : Trees) → AllRead most es
   all_read most no_trees = tt
   all_read most (tree_and e es) = (reads most e, all_read most es)
 

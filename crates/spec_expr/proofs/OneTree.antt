@@ -11,7 +11,7 @@ use Rattle.spec_expr.specs.Reading.{expr_at}
 use Rattle.spec_expr.proofs.Parts.{same}
 use Rattle.spec_expr.proofs.LevelComplete.{expr_complete}
 
-kept : (most : ℕ) (e : Tree) → depth e ≤ most → limited most e ≡ built e (depth e)
+pub kept : (most : ℕ) (e : Tree) → depth e ≤ most → limited most e ≡ built e (depth e)
 kept most e h = rw (le-leb (depth e) most h) refl
 
 built_is : (e f : Tree) (m n : ℕ) → built e m ≡ built f n → e ≡ f

@@ -1,0 +1,2 @@
+pub mod ItemComplete
+pub mod TextLaws

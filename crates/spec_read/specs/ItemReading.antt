@@ -1,0 +1,186 @@
+-- How a line is read, at its place: by its first words, and an expression or sort up to its end.
+use Rattle.std.specs.Prelude.{ℕ, zero, suc, ℤ, pos, neg_ℤ, max, nat_le, Bool, false, ◌&&◌, if◌then◌else◌, Option, Some, None, List, [], ◌∷◌, length, drop, codes, bytes_eq}
+use Rattle.spec_ast.specs.declared.raw.RawSort.{RawSort}
+use Rattle.spec_ast.specs.declared.raw.RawSort.TheVariants.{Named, Bits, Index}
+use Rattle.spec_ast.specs.Raw.{Tree, Item, sort_line, constant_line, hook_line, class_line, field_line, def_line, var_line, let_line, copy_line, write_line, return_line, end_line}
+use Rattle.spec_expr.specs.Words.{Text, is_name, number_of}
+use Rattle.spec_expr.specs.Grown.{Grown, built, lift, join, limited, limited_list}
+use Rattle.spec_expr.specs.Reading.{Reader, after, past, number_at, number_comma_at, name_at, arguments_at, expr_at}
+use Rattle.spec_read.specs.Places.{Function, Place, top, class_body, body_of, nowhere, function_of, is_handler}
+
+-- what is read and what stands behind it are gone on with
+abbrev pub follows : {A B : Type 0} → Option (A × List Text) → (A → List Text → Option B) → Option B
+follows None on = None
+follows (Some got) on = on got.0 got.1
+
+-- nothing may be left
+abbrev pub at_end : {A : Type 0} → A → List Text → Option A
+at_end a [] = Some a
+at_end a (t ∷ ts) = None
+
+abbrev pub or_else : {A : Type 0} → Option A → Option A → Option A
+or_else None other = other
+or_else (Some a) other = Some a
+
+abbrev pub begins_round : List Text → Bool
+begins_round [] = false
+begins_round (t ∷ ts) = bytes_eq t (codes "(")
+
+-- behind the word and its parenthesis
+abbrev pub new_sort_at : Text → Reader RawSort
+new_sort_at word ts =
+    if bytes_eq word (codes "Bits") then after (number_at ts) (λ n rest. past (codes ")") rest (λ rest. Some (Bits n, rest)))
+    else (if bytes_eq word (codes "Index") then after (number_comma_at ts) (λ w rest. after (number_at rest) (λ n rest. past (codes ")") rest (λ rest. Some (Index w n, rest)))) else None)
+
+abbrev pub sort_at : Reader RawSort
+sort_at [] = None
+sort_at (t ∷ ts) = if begins_round ts then new_sort_at t (drop 1 ts) else (if is_name t then Some (Named t, ts) else None)
+
+abbrev pub more_sorts_at : ℕ → Reader (List RawSort)
+more_sorts_at zero ts = None
+more_sorts_at (suc m) [] = None
+more_sorts_at (suc m) (t ∷ ts) =
+    if bytes_eq t (codes ")") then Some ([], ts)
+    else (if bytes_eq t (codes ",") then after (sort_at ts) (λ s rest. after (more_sorts_at m rest) (λ ss rest. Some (s ∷ ss, rest))) else None)
+
+-- at most four
+abbrev pub few_keys : RawSort → List RawSort → List Text → Option (List RawSort × List Text)
+few_keys s ss ts = if nat_le (length ss) 3 then Some (s ∷ ss, ts) else None
+
+abbrev pub keys_at : Reader (List RawSort)
+keys_at [] = None
+keys_at (t ∷ ts) =
+    if bytes_eq t (codes "(") then after (sort_at ts) (λ s rest. after (more_sorts_at (length rest) rest) (λ ss rest. few_keys s ss rest))
+    else after (sort_at (t ∷ ts)) (λ s rest. Some (s ∷ [], rest))
+
+abbrev pub more_parameters_at : ℕ → Reader (List Text)
+more_parameters_at zero ts = None
+more_parameters_at (suc m) [] = None
+more_parameters_at (suc m) (t ∷ ts) =
+    if bytes_eq t (codes ")") then Some ([], ts)
+    else (if bytes_eq t (codes ",") then after (name_at ts) (λ x rest. after (more_parameters_at m rest) (λ xs rest. Some (x ∷ xs, rest))) else None)
+
+abbrev pub parameters_at : Reader (List Text)
+parameters_at ts = after (name_at ts) (λ x rest. after (more_parameters_at (length rest) rest) (λ xs rest. Some (x ∷ xs, rest)))
+
+-- a line without expressions
+abbrev pub plain : Item → Grown Item
+plain item = built item 0
+
+abbrev pub constant_of : Text → (ℕ → ℤ) → Option ℕ → List Text → Option (Grown Item)
+constant_of x sign None ts = None
+constant_of x sign (Some n) ts = at_end (plain (constant_line x (sign n))) ts
+
+-- behind `NAME =`, with the words behind the first
+abbrev pub top_value : Text → Text → List Text → Option (Grown Item)
+top_value x t [] = constant_of x pos (number_of t) []
+top_value x t (u ∷ ts) =
+    if bytes_eq u (codes "(")
+    then (if bytes_eq t (codes "Hook") then past (codes ")") ts (λ rest. at_end (plain (hook_line x)) rest) else follows (new_sort_at t ts) (λ s rest. at_end (plain (sort_line x s)) rest))
+    else (if bytes_eq t (codes "-") then constant_of x (λ n. neg_ℤ (pos n)) (number_of u) ts else None)
+
+abbrev pub top_from : Text → List Text → Option (Grown Item)
+top_from x [] = None
+top_from x (t ∷ ts) = top_value x t ts
+
+abbrev pub class_from : Text → List Text → Option (Grown Item)
+class_from x [] = None
+class_from x (t ∷ ts) =
+    if bytes_eq t (codes ":") then at_end (plain (class_line x)) ts
+    else (if bytes_eq t (codes "(") then follows (name_at ts) (λ base rest. past (codes ")") rest (λ rest. past (codes ":") rest (λ rest. at_end (plain (class_line x)) rest))) else None)
+
+abbrev pub def_with : Text → List Text → Option Function → List Text → Option (Grown Item)
+def_with x xs None ts = None
+def_with x xs (Some f) ts = at_end (plain (def_line x xs)) ts
+
+abbrev pub def_from : Text → List Text → Option (Grown Item)
+def_from x ts = past (codes "(") ts (λ rest. follows (parameters_at rest) (λ xs rest. past (codes ":") rest (λ rest. def_with x xs (function_of x xs) rest)))
+
+abbrev pub top_at : List Text → Option (Grown Item)
+top_at [] = None
+top_at (t ∷ ts) =
+    if bytes_eq t (codes "class") then follows (name_at ts) class_from
+    else (if bytes_eq t (codes "def") then follows (name_at ts) def_from
+    else (if is_name t then past (codes "=") ts (top_from t) else None))
+
+abbrev pub map_from : Text → List Text → Option (Grown Item)
+map_from x ts = follows (keys_at ts) (λ keys rest. past (codes ",") rest (λ rest. follows (sort_at rest) (λ s rest. past (codes ")") rest (λ rest. at_end (plain (field_line x keys s)) rest))))
+
+abbrev pub field_from : Text → List Text → Option (Grown Item)
+field_from x [] = None
+field_from x (t ∷ ts) =
+    if begins_round ts && bytes_eq t (codes "Map") then map_from x (drop 1 ts) else follows (sort_at (t ∷ ts)) (λ s rest. at_end (plain (field_line x [] s)) rest)
+
+abbrev pub class_at : List Text → Option (Grown Item)
+class_at [] = None
+class_at (t ∷ ts) = if is_name t then past (codes "=") ts (field_from t) else None
+
+abbrev pub same_depth : ℕ → ℕ
+same_depth m = m
+
+-- an expression up to the end of the line
+abbrev pub expr_end : ℕ → ℕ → (Grown Tree → Grown Item) → List Text → Option (Grown Item)
+expr_end most n item ts = follows (expr_at most n ts) (λ e rest. at_end (item e) rest)
+
+abbrev pub let_from : ℕ → ℕ → Text → List Text → Option (Grown Item)
+let_from most n x ts = expr_end most n (lift most (let_line x) same_depth) ts
+
+abbrev pub var_from : Text → List Text → Option (Grown Item)
+var_from x [] = None
+var_from x (t ∷ ts) =
+    if bytes_eq t (codes "Var") then past (codes "(") ts (λ rest. follows (sort_at rest) (λ s rest. past (codes ")") rest (λ rest. at_end (plain (var_line x s)) rest))) else None
+
+abbrev pub copy_from : Function → Text → List Text → Option (Grown Item)
+copy_from f x ts =
+    if is_handler f
+    then follows (name_at ts) (λ s rest. past (codes ".") rest (λ rest. past (codes "copy") rest (λ rest. past (codes "(") rest (λ rest. past (codes ")") rest (λ rest. at_end (plain (copy_line x s)) rest)))))
+    else None
+
+abbrev pub assigned_at : ℕ → ℕ → Function → Text → List Text → Option (Grown Item)
+assigned_at most n f x ts = or_else (let_from most n x ts) (or_else (var_from x ts) (copy_from f x ts))
+
+abbrev pub write_value : ℕ → ℕ → Text → Text → List Text → Option (Grown Item)
+write_value most n c f [] = None
+write_value most n c f (t ∷ ts) =
+    if bytes_eq t (codes "=") then expr_end most n (lift most (write_line c f None) same_depth) ts
+    else (if bytes_eq t (codes "[")
+    then follows (arguments_at most (expr_at most n) (codes "]") ts)
+    (λ es rest. past (codes "=") rest (λ rest. expr_end most n (join most (λ at e. write_line c f (Some at) e) max es) rest))
+    else None)
+
+abbrev pub write_from : ℕ → ℕ → Function → Text → List Text → Option (Grown Item)
+write_from most n f c ts = if is_handler f then follows (name_at ts) (write_value most n c) else None
+
+abbrev pub result_from : ℕ → ℕ → Grown Tree → Text → List Text → Option (Grown Item)
+result_from most n e s [] = Some (lift most (λ x. end_line x s None) same_depth e)
+result_from most n e s (t ∷ ts) = if bytes_eq t (codes ",") then expr_end most n (join most (λ x r. end_line x s (Some r)) max e) ts else None
+
+abbrev pub return_from : ℕ → ℕ → Function → List Text → Option (Grown Item)
+return_from most n f ts =
+    if is_handler f then follows (expr_at most n ts) (λ e rest. past (codes ",") rest (λ rest. follows (name_at rest) (result_from most n e)))
+    else expr_end most n (lift most return_line same_depth) ts
+
+abbrev pub statement_from : ℕ → ℕ → Function → Text → List Text → Option (Grown Item)
+statement_from most n f x [] = None
+statement_from most n f x (t ∷ ts) = if bytes_eq t (codes "=") then assigned_at most n f x ts else (if bytes_eq t (codes ".") then write_from most n f x ts else None)
+
+abbrev pub body_at : ℕ → ℕ → Function → List Text → Option (Grown Item)
+body_at most n f [] = None
+body_at most n f (t ∷ ts) = if bytes_eq t (codes "return") then return_from most n f ts else (if is_name t then statement_from most n f t ts else None)
+
+-- the line of these words at a place, built up to a depth; the number is one more than that of the words, or greater
+unfoldable pub item_at : ℕ → ℕ → Place → List Text → Option (Grown Item)
+item_at most n top ts = top_at ts
+item_at most n class_body ts = class_at ts
+item_at most n (body_of f) ts = body_at most n f ts
+item_at most n nowhere ts = None
+
+-- the line built up to a depth
+abbrev pub limited_item : ℕ → Item → Grown Item
+limited_item most (let_line x e) = lift most (let_line x) same_depth (limited most e)
+limited_item most (write_line c f None e) = lift most (write_line c f None) same_depth (limited most e)
+limited_item most (write_line c f (Some es) e) = join most (λ at x. write_line c f (Some at) x) max (limited_list most es) (limited most e)
+limited_item most (return_line e) = lift most return_line same_depth (limited most e)
+limited_item most (end_line e s None) = lift most (λ x. end_line x s None) same_depth (limited most e)
+limited_item most (end_line e s (Some r)) = join most (λ x y. end_line x s (Some y)) max (limited most e) (limited most r)
+limited_item most item = built item 0

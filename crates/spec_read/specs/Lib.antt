@@ -1,0 +1,5 @@
+pub mod Places
+pub mod Items
+pub mod ItemReading
+pub mod Texts
+pub mod Laws
