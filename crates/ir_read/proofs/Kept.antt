@@ -7,7 +7,7 @@ use Rattle.ir_ast.specs.declared.fault.KernelReason.TheVariants.{K2, K4}
 use Rattle.ir_lex.specs.Cut.{Cut}
 use Rattle.ir_lex.specs.Items.{Top, layout_item, type_item, global_item, define_item, declare_item, Inner, label_item, instr_item, close_item}
 use Rattle.ir_read.specs.State.{BodyState, State, is_inside, outside, inside}
-use Rattle.ir_read.specs.Ahead.{is_close, holds_close, begins_unlabelled}
+use Rattle.ir_read.specs.Ahead.{is_close, holds_close, begins_unlabelled, ends}
 use Rattle.ir_read.specs.Reads.{Reading, passed, ranged, top_of, inner_of, refused, Reads}
 use Rattle.ir_read.specs.Steps.{Out, is_symbol, is_end, with_entry, then_outside, ranges_in, then_whole, then_inside, then_closed, begun, scope_of, first_block, labelled, label_in, with_name, instr_in, instr_at, with_result, grown_body, closed_at, after_inner, after_top, after_reading}
 use Rattle.ir_read.specs.Spelling.{Leads, Passes}

@@ -100,7 +100,6 @@ fn begin(alloc: Global, unlabelled: bool, function: Function) -> Result<Body, St
 }
 
 /// The same, with its first block where that has no label.
-#[tactic(auto, using(crate::proofs::Begun::begun_err))]
 fn begin_with(alloc: Global, block: Option<Block>, function: Function) -> Result<Body, Stop>
     ensures { Gives view_body result (definition.begun (definition.scope_of (view_function function).parameters (option_map view_block block)) (view_function function) (option_map view_block block)) }
 {

@@ -1,6 +1,7 @@
 use Rattle.std.proofs.Common.{sym, subst, get_or, drop, [], false, ◌+◌}
 use Rattle.ir_lex.specs.Cut.{cut_of, cuts_of}
 use Rattle.ir_lex.specs.declared.cut.Item.{Item}
+use Rattle.ir_read.specs.Ahead.{ends}
 use Rattle.ir_read.specs.State.{at_start}
 use Rattle.ir_read.specs.Spelling.{Leads, SpellsFrom, Passes}
 use Rattle.ir_read.specs.View.{state_of}
