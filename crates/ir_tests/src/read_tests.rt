@@ -31,7 +31,7 @@ fn shown(alloc: Global, text: &[u8]) -> (u32, u32)
 
 #[test]
 fn what_fails_first_is_named(rt: HostRuntime) -> Result<(), AllocError> {
-    let table: [(&[u8], u32, u32); 49] = [
+    let table: [(&[u8], u32, u32); 53] = [
         (b"@a = global i8 0 ~", 1, 1),
         (b"@a = global i8", 1, 2),
         (b"@p = thread_local global i8 0", 1, 3),
