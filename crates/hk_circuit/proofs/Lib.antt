@@ -8,3 +8,4 @@ pub mod SignBits
 pub mod SignedDivision
 pub mod WordArithmetic
 pub mod WordNumbers
+pub mod Frames

@@ -1,11 +1,11 @@
 //! Sums and differences of words.
 
-ghost use Rattle.std.specs.Prelude.{◌≡◌, ◌≤◌, ◌<◌, ◌+◌, ◌-◌, ◌*◌, ◌%◌, ◌^◌, true, ℕ, ℤ, Bool, List, IfOk, length, All};
-ghost use Rattle.hk_cnf.specs.Literal.{IsWithin, place_of};
-ghost use Rattle.hk_cnf.specs.Circuit.{Circuit, gate_value};
-ghost use Rattle.hk_cnf.specs.CircuitGrowth.{IsGrown, inputs_of};
+ghost use Rattle.std.specs.Prelude.{◌≡◌, ◌+◌, ◌-◌, ◌*◌, ◌%◌, ◌^◌, true, ℕ, Bool, IfOk, length, All};
+ghost use Rattle.hk_cnf.specs.Literal.{IsWithin};
+ghost use Rattle.hk_cnf.specs.Circuit.{gate_value};
 ghost use Rattle.hk_num.specs.Numbers.{bvadd, bvsub};
 ghost use Rattle.hk_circuit.specs.Words.{bit, gate_number};
+ghost use Rattle.hk_circuit.specs.Frame.{Frame};
 
 use crate::bit::full_add;
 use crate::word::{complement, repeat};
@@ -33,11 +33,7 @@ pub fn add_with_carry(
     requires first { All (IsWithin gates.old.vars) a.now }
     requires second { All (IsWithin gates.old.vars) b.now }
     requires third { IsWithin gates.old.vars carry }
-    ensures vars { gates.old.vars ≤ gates.new.vars }
-    ensures keeps { (l : ℤ) → place_of l < gates.old.vars → (v : ℕ → Bool) → gate_value gates.new l v ≡ gate_value gates.old l v }
-    ensures grows { (c : Circuit) → IsGrown c gates.old → IsGrown c gates.new }
-    ensures inputs { inputs_of gates.new ≡ inputs_of gates.old }
-    ensures keeps_words { (ls : List ℤ) → All (IsWithin gates.old.vars) ls → (v : ℕ → Bool) → gate_number gates.new ls v ≡ gate_number gates.old ls v }
+    ensures frame { Frame gates.old gates.new }
     ensures size { IfOk result (λ s. length s.word.items ≡ length a.now) }
     ensures word_within { IfOk result (λ s. All (IsWithin gates.new.vars) s.word.items) }
     ensures carry_within { IfOk result (λ s. IsWithin gates.new.vars s.carry) }
@@ -66,11 +62,7 @@ pub fn add(
     requires second { All (IsWithin gates.old.vars) b.now }
     requires truth { IsWithin gates.old.vars truth }
     requires truth_is { (v : ℕ → Bool) → gate_value gates.old truth v ≡ true }
-    ensures vars { gates.old.vars ≤ gates.new.vars }
-    ensures keeps { (l : ℤ) → place_of l < gates.old.vars → (v : ℕ → Bool) → gate_value gates.new l v ≡ gate_value gates.old l v }
-    ensures grows { (c : Circuit) → IsGrown c gates.old → IsGrown c gates.new }
-    ensures inputs { inputs_of gates.new ≡ inputs_of gates.old }
-    ensures keeps_words { (ls : List ℤ) → All (IsWithin gates.old.vars) ls → (v : ℕ → Bool) → gate_number gates.new ls v ≡ gate_number gates.old ls v }
+    ensures frame { Frame gates.old gates.new }
     ensures size { IfOk result (λ w. length w.items ≡ length a.now) }
     ensures within { IfOk result (λ w. All (IsWithin gates.new.vars) w.items) }
     ensures value { IfOk result (λ w. (v : ℕ → Bool) → gate_number gates.new w.items v ≡ bvadd (length a.now) (gate_number gates.old a.now v) (gate_number gates.old b.now v)) }
@@ -93,11 +85,7 @@ pub fn subtract(
     requires second { All (IsWithin gates.old.vars) b.now }
     requires truth { IsWithin gates.old.vars truth }
     requires truth_is { (v : ℕ → Bool) → gate_value gates.old truth v ≡ true }
-    ensures vars { gates.old.vars ≤ gates.new.vars }
-    ensures keeps { (l : ℤ) → place_of l < gates.old.vars → (v : ℕ → Bool) → gate_value gates.new l v ≡ gate_value gates.old l v }
-    ensures grows { (c : Circuit) → IsGrown c gates.old → IsGrown c gates.new }
-    ensures inputs { inputs_of gates.new ≡ inputs_of gates.old }
-    ensures keeps_words { (ls : List ℤ) → All (IsWithin gates.old.vars) ls → (v : ℕ → Bool) → gate_number gates.new ls v ≡ gate_number gates.old ls v }
+    ensures frame { Frame gates.old gates.new }
     ensures size { IfOk result (λ w. length w.items ≡ length a.now) }
     ensures within { IfOk result (λ w. All (IsWithin gates.new.vars) w.items) }
     ensures value { IfOk result (λ w. (v : ℕ → Bool) → gate_number gates.new w.items v ≡ bvsub (length a.now) (gate_number gates.old a.now v) (gate_number gates.old b.now v)) }
@@ -118,11 +106,7 @@ pub fn negate(
     requires word { All (IsWithin gates.old.vars) a.now }
     requires truth { IsWithin gates.old.vars truth }
     requires truth_is { (v : ℕ → Bool) → gate_value gates.old truth v ≡ true }
-    ensures vars { gates.old.vars ≤ gates.new.vars }
-    ensures keeps { (l : ℤ) → place_of l < gates.old.vars → (v : ℕ → Bool) → gate_value gates.new l v ≡ gate_value gates.old l v }
-    ensures grows { (c : Circuit) → IsGrown c gates.old → IsGrown c gates.new }
-    ensures inputs { inputs_of gates.new ≡ inputs_of gates.old }
-    ensures keeps_words { (ls : List ℤ) → All (IsWithin gates.old.vars) ls → (v : ℕ → Bool) → gate_number gates.new ls v ≡ gate_number gates.old ls v }
+    ensures frame { Frame gates.old gates.new }
     ensures size { IfOk result (λ w. length w.items ≡ length a.now) }
     ensures within { IfOk result (λ w. All (IsWithin gates.new.vars) w.items) }
     ensures value { IfOk result (λ w. (v : ℕ → Bool) → gate_number gates.new w.items v ≡ (2 ^ length a.now - gate_number gates.old a.now v) % 2 ^ length a.now) }

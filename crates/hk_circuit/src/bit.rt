@@ -1,21 +1,17 @@
 //! Circuits over single literals.
 
-ghost use Rattle.std.specs.Prelude.{◌≡◌, ◌≤◌, ◌<◌, ◌&&◌, ◌||◌, ◌+◌, ◌*◌, not, false, ℕ, ℤ, Bool, List, All, if◌then◌else◌, IfOk};
-ghost use Rattle.hk_cnf.specs.Literal.{IsWithin, place_of};
-ghost use Rattle.hk_cnf.specs.Circuit.{Circuit, gate_value};
-ghost use Rattle.hk_cnf.specs.CircuitGrowth.{IsGrown, inputs_of};
-ghost use Rattle.hk_circuit.specs.Words.{differ, majority, gate_number};
+ghost use Rattle.std.specs.Prelude.{◌≡◌, ◌&&◌, ◌||◌, not, false, ℕ, Bool, if◌then◌else◌, IfOk};
+ghost use Rattle.hk_cnf.specs.Literal.{IsWithin};
+ghost use Rattle.hk_cnf.specs.Circuit.{gate_value};
+ghost use Rattle.hk_circuit.specs.Words.{differ, majority};
+ghost use Rattle.hk_circuit.specs.Frame.{Frame};
 
 use hk_cnf::{Gates, Lit};
 use std::alloc::AllocError;
 
 /// The literal that is false. A table has one variable for it, with one clause.
 pub fn false_literal(gates: &mut Gates) -> Result<Lit, AllocError>
-    ensures vars { gates.old.vars ≤ gates.new.vars }
-    ensures keeps { (l : ℤ) → place_of l < gates.old.vars → (v : ℕ → Bool) → gate_value gates.new l v ≡ gate_value gates.old l v }
-    ensures grows { (c : Circuit) → IsGrown c gates.old → IsGrown c gates.new }
-    ensures inputs { inputs_of gates.new ≡ inputs_of gates.old }
-    ensures keeps_words { (ls : List ℤ) → All (IsWithin gates.old.vars) ls → (v : ℕ → Bool) → gate_number gates.new ls v ≡ gate_number gates.old ls v }
+    ensures frame { Frame gates.old gates.new }
     ensures within { IfOk result (λ l. IsWithin gates.new.vars l) }
     ensures value { IfOk result (λ l. (v : ℕ → Bool) → gate_value gates.new l v ≡ false) }
 {
@@ -23,19 +19,28 @@ pub fn false_literal(gates: &mut Gates) -> Result<Lit, AllocError>
     Ok(truth.negated())
 }
 
+/// The conjunction: one gate.
+pub fn and(gates: &mut Gates, a: Lit, b: Lit) -> Result<Lit, AllocError>
+    requires first { IsWithin gates.old.vars a }
+    requires second { IsWithin gates.old.vars b }
+    ensures frame { Frame gates.old gates.new }
+    ensures within { IfOk result (λ l. IsWithin gates.new.vars l) }
+    ensures value { IfOk result (λ l. (v : ℕ → Bool) → gate_value gates.new l v ≡ (gate_value gates.old a v && gate_value gates.old b v)) }
+{
+    let both = gates.and(a, b)?;
+    Ok(both)
+}
+
 /// The disjunction: one gate.
 #[tactic(auto, using(crate::proofs::Negated::value_negated))]
 pub fn or(gates: &mut Gates, a: Lit, b: Lit) -> Result<Lit, AllocError>
     requires first { IsWithin gates.old.vars a }
     requires second { IsWithin gates.old.vars b }
-    ensures vars { gates.old.vars ≤ gates.new.vars }
-    ensures keeps { (l : ℤ) → place_of l < gates.old.vars → (v : ℕ → Bool) → gate_value gates.new l v ≡ gate_value gates.old l v }
-    ensures grows { (c : Circuit) → IsGrown c gates.old → IsGrown c gates.new }
-    ensures inputs { inputs_of gates.new ≡ inputs_of gates.old }
+    ensures frame { Frame gates.old gates.new }
     ensures within { IfOk result (λ l. IsWithin gates.new.vars l) }
     ensures value { IfOk result (λ l. (v : ℕ → Bool) → gate_value gates.new l v ≡ (gate_value gates.old a v || gate_value gates.old b v)) }
 {
-    let neither = gates.and(a.negated(), b.negated())?;
+    let neither = and(gates, a.negated(), b.negated())?;
     Ok(neither.negated())
 }
 
@@ -53,18 +58,15 @@ pub struct Digit {
 fn half_add(gates: &mut Gates, a: Lit, b: Lit) -> Result<Digit, AllocError>
     requires first { IsWithin gates.old.vars a }
     requires second { IsWithin gates.old.vars b }
-    ensures vars { gates.old.vars ≤ gates.new.vars }
-    ensures keeps { (l : ℤ) → place_of l < gates.old.vars → (v : ℕ → Bool) → gate_value gates.new l v ≡ gate_value gates.old l v }
-    ensures grows { (c : Circuit) → IsGrown c gates.old → IsGrown c gates.new }
-    ensures inputs { inputs_of gates.new ≡ inputs_of gates.old }
+    ensures frame { Frame gates.old gates.new }
     ensures sum_within { IfOk result (λ d. IsWithin gates.new.vars d.sum) }
     ensures carry_within { IfOk result (λ d. IsWithin gates.new.vars d.carry) }
     ensures sum { IfOk result (λ d. (v : ℕ → Bool) → gate_value gates.new d.sum v ≡ differ (gate_value gates.old a v) (gate_value gates.old b v)) }
     ensures carry { IfOk result (λ d. (v : ℕ → Bool) → gate_value gates.new d.carry v ≡ (gate_value gates.old a v && gate_value gates.old b v)) }
 {
-    let both = gates.and(a, b)?;
-    let neither = gates.and(a.negated(), b.negated())?;
-    let sum = gates.and(both.negated(), neither.negated())?;
+    let both = and(gates, a, b)?;
+    let neither = and(gates, a.negated(), b.negated())?;
+    let sum = and(gates, both.negated(), neither.negated())?;
     Ok(Digit { sum, carry: both })
 }
 
@@ -72,10 +74,7 @@ fn half_add(gates: &mut Gates, a: Lit, b: Lit) -> Result<Digit, AllocError>
 pub fn xor(gates: &mut Gates, a: Lit, b: Lit) -> Result<Lit, AllocError>
     requires first { IsWithin gates.old.vars a }
     requires second { IsWithin gates.old.vars b }
-    ensures vars { gates.old.vars ≤ gates.new.vars }
-    ensures keeps { (l : ℤ) → place_of l < gates.old.vars → (v : ℕ → Bool) → gate_value gates.new l v ≡ gate_value gates.old l v }
-    ensures grows { (c : Circuit) → IsGrown c gates.old → IsGrown c gates.new }
-    ensures inputs { inputs_of gates.new ≡ inputs_of gates.old }
+    ensures frame { Frame gates.old gates.new }
     ensures within { IfOk result (λ l. IsWithin gates.new.vars l) }
     ensures value { IfOk result (λ l. (v : ℕ → Bool) → gate_value gates.new l v ≡ differ (gate_value gates.old a v) (gate_value gates.old b v)) }
 {
@@ -89,15 +88,12 @@ pub fn choose(gates: &mut Gates, condition: Lit, a: Lit, b: Lit) -> Result<Lit, 
     requires condition { IsWithin gates.old.vars condition }
     requires first { IsWithin gates.old.vars a }
     requires second { IsWithin gates.old.vars b }
-    ensures vars { gates.old.vars ≤ gates.new.vars }
-    ensures keeps { (l : ℤ) → place_of l < gates.old.vars → (v : ℕ → Bool) → gate_value gates.new l v ≡ gate_value gates.old l v }
-    ensures grows { (c : Circuit) → IsGrown c gates.old → IsGrown c gates.new }
-    ensures inputs { inputs_of gates.new ≡ inputs_of gates.old }
+    ensures frame { Frame gates.old gates.new }
     ensures within { IfOk result (λ l. IsWithin gates.new.vars l) }
     ensures value { IfOk result (λ l. (v : ℕ → Bool) → gate_value gates.new l v ≡ (if gate_value gates.old condition v then gate_value gates.old a v else gate_value gates.old b v)) }
 {
-    let then = gates.and(condition, a)?;
-    let other = gates.and(condition.negated(), b)?;
+    let then = and(gates, condition, a)?;
+    let other = and(gates, condition.negated(), b)?;
     let either = or(gates, then, other)?;
     Ok(either)
 }
@@ -107,10 +103,7 @@ pub fn full_add(gates: &mut Gates, a: Lit, b: Lit, carry: Lit) -> Result<Digit, 
     requires first { IsWithin gates.old.vars a }
     requires second { IsWithin gates.old.vars b }
     requires third { IsWithin gates.old.vars carry }
-    ensures vars { gates.old.vars ≤ gates.new.vars }
-    ensures keeps { (l : ℤ) → place_of l < gates.old.vars → (v : ℕ → Bool) → gate_value gates.new l v ≡ gate_value gates.old l v }
-    ensures grows { (c : Circuit) → IsGrown c gates.old → IsGrown c gates.new }
-    ensures inputs { inputs_of gates.new ≡ inputs_of gates.old }
+    ensures frame { Frame gates.old gates.new }
     ensures sum_within { IfOk result (λ d. IsWithin gates.new.vars d.sum) }
     ensures carry_within { IfOk result (λ d. IsWithin gates.new.vars d.carry) }
     ensures sum { IfOk result (λ d. (v : ℕ → Bool) → gate_value gates.new d.sum v ≡ differ (differ (gate_value gates.old a v) (gate_value gates.old b v)) (gate_value gates.old carry v)) }
@@ -131,16 +124,13 @@ pub fn less_bit(gates: &mut Gates, a: Lit, b: Lit, less: Lit) -> Result<Lit, All
     requires first { IsWithin gates.old.vars a }
     requires second { IsWithin gates.old.vars b }
     requires rest { IsWithin gates.old.vars less }
-    ensures vars { gates.old.vars ≤ gates.new.vars }
-    ensures keeps { (l : ℤ) → place_of l < gates.old.vars → (v : ℕ → Bool) → gate_value gates.new l v ≡ gate_value gates.old l v }
-    ensures grows { (c : Circuit) → IsGrown c gates.old → IsGrown c gates.new }
-    ensures inputs { inputs_of gates.new ≡ inputs_of gates.old }
+    ensures frame { Frame gates.old gates.new }
     ensures within { IfOk result (λ l. IsWithin gates.new.vars l) }
     ensures value { IfOk result (λ l. (v : ℕ → Bool) → gate_value gates.new l v ≡ ((not (gate_value gates.old a v) && gate_value gates.old b v) || (gate_value gates.old less v && not (gate_value gates.old a v && not (gate_value gates.old b v))))) }
 {
-    let below = gates.and(a.negated(), b)?;
-    let above = gates.and(a, b.negated())?;
-    let still = gates.and(less, above.negated())?;
+    let below = and(gates, a.negated(), b)?;
+    let above = and(gates, a, b.negated())?;
+    let still = and(gates, less, above.negated())?;
     let either = or(gates, below, still)?;
     Ok(either)
 }

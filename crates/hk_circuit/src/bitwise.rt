@@ -1,12 +1,12 @@
 //! The bitwise operations.
 
-ghost use Rattle.std.specs.Prelude.{◌≡◌, ◌≤◌, ◌<◌, ◌-◌, ◌^◌, if◌then◌else◌, bit_and, bit_or, bit_xor, ℕ, ℤ, Bool, List, IfOk, length, All};
-ghost use Rattle.hk_cnf.specs.Literal.{IsWithin, place_of};
-ghost use Rattle.hk_cnf.specs.Circuit.{Circuit, gate_value};
-ghost use Rattle.hk_cnf.specs.CircuitGrowth.{IsGrown, inputs_of};
+ghost use Rattle.std.specs.Prelude.{◌≡◌, ◌-◌, ◌^◌, if◌then◌else◌, bit_and, bit_or, bit_xor, ℕ, Bool, IfOk, length, All};
+ghost use Rattle.hk_cnf.specs.Literal.{IsWithin};
+ghost use Rattle.hk_cnf.specs.Circuit.{gate_value};
 ghost use Rattle.hk_circuit.specs.Words.{gate_number};
+ghost use Rattle.hk_circuit.specs.Frame.{Frame};
 
-use crate::bit::{or, xor};
+use crate::bit::{and, or, xor};
 use crate::word::repeat;
 use hk_cnf::{Gates, Lit};
 use std::alloc::{AllocError, Global};
@@ -21,18 +21,14 @@ pub fn and_words(
     requires same { length a.now ≡ length b.now }
     requires first { All (IsWithin gates.old.vars) a.now }
     requires second { All (IsWithin gates.old.vars) b.now }
-    ensures vars { gates.old.vars ≤ gates.new.vars }
-    ensures keeps { (l : ℤ) → place_of l < gates.old.vars → (v : ℕ → Bool) → gate_value gates.new l v ≡ gate_value gates.old l v }
-    ensures grows { (c : Circuit) → IsGrown c gates.old → IsGrown c gates.new }
-    ensures inputs { inputs_of gates.new ≡ inputs_of gates.old }
-    ensures keeps_words { (ls : List ℤ) → All (IsWithin gates.old.vars) ls → (v : ℕ → Bool) → gate_number gates.new ls v ≡ gate_number gates.old ls v }
+    ensures frame { Frame gates.old gates.new }
     ensures size { IfOk result (λ w. length w.items ≡ length a.now) }
     ensures within { IfOk result (λ w. All (IsWithin gates.new.vars) w.items) }
     ensures value { IfOk result (λ w. (v : ℕ → Bool) → gate_number gates.new w.items v ≡ bit_and (gate_number gates.old a.now v) (gate_number gates.old b.now v)) }
 {
     let mut word = Vec::new(alloc);
     for i in 0..a.len() {
-        let lit = gates.and(a[i], b[i])?;
+        let lit = and(gates, a[i], b[i])?;
         word.push(lit)?;
     }
     Ok(word)
@@ -48,11 +44,7 @@ pub fn or_words(
     requires same { length a.now ≡ length b.now }
     requires first { All (IsWithin gates.old.vars) a.now }
     requires second { All (IsWithin gates.old.vars) b.now }
-    ensures vars { gates.old.vars ≤ gates.new.vars }
-    ensures keeps { (l : ℤ) → place_of l < gates.old.vars → (v : ℕ → Bool) → gate_value gates.new l v ≡ gate_value gates.old l v }
-    ensures grows { (c : Circuit) → IsGrown c gates.old → IsGrown c gates.new }
-    ensures inputs { inputs_of gates.new ≡ inputs_of gates.old }
-    ensures keeps_words { (ls : List ℤ) → All (IsWithin gates.old.vars) ls → (v : ℕ → Bool) → gate_number gates.new ls v ≡ gate_number gates.old ls v }
+    ensures frame { Frame gates.old gates.new }
     ensures size { IfOk result (λ w. length w.items ≡ length a.now) }
     ensures within { IfOk result (λ w. All (IsWithin gates.new.vars) w.items) }
     ensures value { IfOk result (λ w. (v : ℕ → Bool) → gate_number gates.new w.items v ≡ bit_or (gate_number gates.old a.now v) (gate_number gates.old b.now v)) }
@@ -75,11 +67,7 @@ pub fn xor_words(
     requires same { length a.now ≡ length b.now }
     requires first { All (IsWithin gates.old.vars) a.now }
     requires second { All (IsWithin gates.old.vars) b.now }
-    ensures vars { gates.old.vars ≤ gates.new.vars }
-    ensures keeps { (l : ℤ) → place_of l < gates.old.vars → (v : ℕ → Bool) → gate_value gates.new l v ≡ gate_value gates.old l v }
-    ensures grows { (c : Circuit) → IsGrown c gates.old → IsGrown c gates.new }
-    ensures inputs { inputs_of gates.new ≡ inputs_of gates.old }
-    ensures keeps_words { (ls : List ℤ) → All (IsWithin gates.old.vars) ls → (v : ℕ → Bool) → gate_number gates.new ls v ≡ gate_number gates.old ls v }
+    ensures frame { Frame gates.old gates.new }
     ensures size { IfOk result (λ w. length w.items ≡ length a.now) }
     ensures within { IfOk result (λ w. All (IsWithin gates.new.vars) w.items) }
     ensures value { IfOk result (λ w. (v : ℕ → Bool) → gate_number gates.new w.items v ≡ bit_xor (gate_number gates.old a.now v) (gate_number gates.old b.now v)) }
@@ -101,11 +89,7 @@ pub fn turn_where(
 ) -> Result<Vec<Lit>, AllocError>
     requires condition { IsWithin gates.old.vars condition }
     requires word { All (IsWithin gates.old.vars) a.now }
-    ensures vars { gates.old.vars ≤ gates.new.vars }
-    ensures keeps { (l : ℤ) → place_of l < gates.old.vars → (v : ℕ → Bool) → gate_value gates.new l v ≡ gate_value gates.old l v }
-    ensures grows { (c : Circuit) → IsGrown c gates.old → IsGrown c gates.new }
-    ensures inputs { inputs_of gates.new ≡ inputs_of gates.old }
-    ensures keeps_words { (ls : List ℤ) → All (IsWithin gates.old.vars) ls → (v : ℕ → Bool) → gate_number gates.new ls v ≡ gate_number gates.old ls v }
+    ensures frame { Frame gates.old gates.new }
     ensures size { IfOk result (λ w. length w.items ≡ length a.now) }
     ensures within { IfOk result (λ w. All (IsWithin gates.new.vars) w.items) }
     ensures value { IfOk result (λ w. (v : ℕ → Bool) → gate_number gates.new w.items v ≡ (if gate_value gates.old condition v then 2 ^ length a.now - 1 - gate_number gates.old a.now v else gate_number gates.old a.now v)) }

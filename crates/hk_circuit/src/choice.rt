@@ -1,10 +1,10 @@
 //! Choices between words, and operations on each pair of bits.
 
-ghost use Rattle.std.specs.Prelude.{◌≡◌, ◌≤◌, ◌<◌, ◌+◌, ◌-◌, ◌*◌, ◌^◌, ◌&&◌, ◌||◌, not, true, nat_eq, nat_lt, bit_and, bit_or, bit_xor, ℕ, ℤ, Bool, List, IfOk, length, All, if◌then◌else◌};
-ghost use Rattle.hk_cnf.specs.Literal.{IsWithin, IsLiteral, place_of};
-ghost use Rattle.hk_cnf.specs.Circuit.{Circuit, gate_value};
-ghost use Rattle.hk_cnf.specs.CircuitGrowth.{IsGrown, inputs_of};
+ghost use Rattle.std.specs.Prelude.{◌≡◌, true, ℕ, Bool, IfOk, length, All, if◌then◌else◌};
+ghost use Rattle.hk_cnf.specs.Literal.{IsWithin};
+ghost use Rattle.hk_cnf.specs.Circuit.{gate_value};
 ghost use Rattle.hk_circuit.specs.Words.{gate_number};
+ghost use Rattle.hk_circuit.specs.Frame.{Frame};
 
 use crate::bit::choose;
 use hk_cnf::{Gates, Lit};
@@ -22,11 +22,7 @@ pub fn choose_words(
     requires same { length a.now ≡ length b.now }
     requires first { All (IsWithin gates.old.vars) a.now }
     requires second { All (IsWithin gates.old.vars) b.now }
-    ensures vars { gates.old.vars ≤ gates.new.vars }
-    ensures keeps { (l : ℤ) → place_of l < gates.old.vars → (v : ℕ → Bool) → gate_value gates.new l v ≡ gate_value gates.old l v }
-    ensures grows { (c : Circuit) → IsGrown c gates.old → IsGrown c gates.new }
-    ensures inputs { inputs_of gates.new ≡ inputs_of gates.old }
-    ensures keeps_words { (ls : List ℤ) → All (IsWithin gates.old.vars) ls → (v : ℕ → Bool) → gate_number gates.new ls v ≡ gate_number gates.old ls v }
+    ensures frame { Frame gates.old gates.new }
     ensures size { IfOk result (λ w. length w.items ≡ length a.now) }
     ensures within { IfOk result (λ w. All (IsWithin gates.new.vars) w.items) }
     ensures value { IfOk result (λ w. (v : ℕ → Bool) → gate_number gates.new w.items v ≡ (if gate_value gates.old condition v then gate_number gates.old a.now v else gate_number gates.old b.now v)) }

@@ -1,13 +1,13 @@
 //! Comparisons of words.
 
-ghost use Rattle.std.specs.Prelude.{◌≡◌, ◌≤◌, ◌<◌, ◌+◌, ◌-◌, ◌*◌, ◌^◌, ◌&&◌, ◌||◌, not, true, false, nat_eq, nat_lt, bit_and, bit_or, bit_xor, ℕ, ℤ, Bool, List, IfOk, length, All, if◌then◌else◌};
-ghost use Rattle.hk_cnf.specs.Literal.{IsWithin, IsLiteral, place_of};
-ghost use Rattle.hk_cnf.specs.Circuit.{Circuit, gate_value};
-ghost use Rattle.hk_cnf.specs.CircuitGrowth.{IsGrown, inputs_of};
+ghost use Rattle.std.specs.Prelude.{◌≡◌, ◌≤◌, ◌&&◌, not, true, false, nat_eq, nat_lt, ℕ, Bool, IfOk, length, All, if◌then◌else◌};
+ghost use Rattle.hk_cnf.specs.Literal.{IsWithin};
+ghost use Rattle.hk_cnf.specs.Circuit.{gate_value};
 ghost use Rattle.hk_num.specs.Numbers.{bvslt};
 ghost use Rattle.hk_circuit.specs.Words.{gate_number};
+ghost use Rattle.hk_circuit.specs.Frame.{Frame};
 
-use crate::bit::{less_bit, or, xor};
+use crate::bit::{and, less_bit, or, xor};
 use crate::word::turn_sign;
 use hk_cnf::{Gates, Lit};
 use std::alloc::{AllocError, Global};
@@ -18,18 +18,14 @@ pub fn equal(gates: &mut Gates, a: &[Lit], b: &[Lit], truth: Lit) -> Result<Lit,
     requires first { All (IsWithin gates.old.vars) a.now }
     requires second { All (IsWithin gates.old.vars) b.now }
     requires start { IsWithin gates.old.vars truth }
-    ensures vars { gates.old.vars ≤ gates.new.vars }
-    ensures keeps { (l : ℤ) → place_of l < gates.old.vars → (v : ℕ → Bool) → gate_value gates.new l v ≡ gate_value gates.old l v }
-    ensures grows { (c : Circuit) → IsGrown c gates.old → IsGrown c gates.new }
-    ensures inputs { inputs_of gates.new ≡ inputs_of gates.old }
-    ensures keeps_words { (ls : List ℤ) → All (IsWithin gates.old.vars) ls → (v : ℕ → Bool) → gate_number gates.new ls v ≡ gate_number gates.old ls v }
+    ensures frame { Frame gates.old gates.new }
     ensures within { IfOk result (λ l. IsWithin gates.new.vars l) }
     ensures value { IfOk result (λ l. (v : ℕ → Bool) → gate_value gates.new l v ≡ (gate_value gates.old truth v && nat_eq (gate_number gates.old a.now v) (gate_number gates.old b.now v))) }
 {
     let mut same = truth;
     for i in 0..a.len() {
         let differ = xor(gates, a[i], b[i])?;
-        same = gates.and(same, differ.negated())?;
+        same = and(gates, same, differ.negated())?;
     }
     Ok(same)
 }
@@ -39,11 +35,7 @@ pub fn is_nonzero(gates: &mut Gates, a: &[Lit], bottom: Lit) -> Result<Lit, Allo
     requires word { All (IsWithin gates.old.vars) a.now }
     requires bottom { IsWithin gates.old.vars bottom }
     requires bottom_is { (v : ℕ → Bool) → gate_value gates.old bottom v ≡ false }
-    ensures vars { gates.old.vars ≤ gates.new.vars }
-    ensures keeps { (l : ℤ) → place_of l < gates.old.vars → (v : ℕ → Bool) → gate_value gates.new l v ≡ gate_value gates.old l v }
-    ensures grows { (c : Circuit) → IsGrown c gates.old → IsGrown c gates.new }
-    ensures inputs { inputs_of gates.new ≡ inputs_of gates.old }
-    ensures keeps_words { (ls : List ℤ) → All (IsWithin gates.old.vars) ls → (v : ℕ → Bool) → gate_number gates.new ls v ≡ gate_number gates.old ls v }
+    ensures frame { Frame gates.old gates.new }
     ensures within { IfOk result (λ l. IsWithin gates.new.vars l) }
     ensures value { IfOk result (λ l. (v : ℕ → Bool) → gate_value gates.new l v ≡ not (nat_eq (gate_number gates.old a.now v) 0)) }
 {
@@ -60,11 +52,7 @@ pub fn less(gates: &mut Gates, a: &[Lit], b: &[Lit], or_equal: Lit) -> Result<Li
     requires first { All (IsWithin gates.old.vars) a.now }
     requires second { All (IsWithin gates.old.vars) b.now }
     requires start { IsWithin gates.old.vars or_equal }
-    ensures vars { gates.old.vars ≤ gates.new.vars }
-    ensures keeps { (l : ℤ) → place_of l < gates.old.vars → (v : ℕ → Bool) → gate_value gates.new l v ≡ gate_value gates.old l v }
-    ensures grows { (c : Circuit) → IsGrown c gates.old → IsGrown c gates.new }
-    ensures inputs { inputs_of gates.new ≡ inputs_of gates.old }
-    ensures keeps_words { (ls : List ℤ) → All (IsWithin gates.old.vars) ls → (v : ℕ → Bool) → gate_number gates.new ls v ≡ gate_number gates.old ls v }
+    ensures frame { Frame gates.old gates.new }
     ensures within { IfOk result (λ l. IsWithin gates.new.vars l) }
     ensures value { IfOk result (λ l. (v : ℕ → Bool) → gate_value gates.new l v ≡ (if gate_value gates.old or_equal v then not (nat_lt (gate_number gates.old b.now v) (gate_number gates.old a.now v)) else nat_lt (gate_number gates.old a.now v) (gate_number gates.old b.now v))) }
 {
@@ -90,11 +78,7 @@ pub fn signed_less(
     requires second { All (IsWithin gates.old.vars) b.now }
     requires bottom { IsWithin gates.old.vars bottom }
     requires bottom_is { (v : ℕ → Bool) → gate_value gates.old bottom v ≡ false }
-    ensures vars { gates.old.vars ≤ gates.new.vars }
-    ensures keeps { (l : ℤ) → place_of l < gates.old.vars → (v : ℕ → Bool) → gate_value gates.new l v ≡ gate_value gates.old l v }
-    ensures grows { (c : Circuit) → IsGrown c gates.old → IsGrown c gates.new }
-    ensures inputs { inputs_of gates.new ≡ inputs_of gates.old }
-    ensures keeps_words { (ls : List ℤ) → All (IsWithin gates.old.vars) ls → (v : ℕ → Bool) → gate_number gates.new ls v ≡ gate_number gates.old ls v }
+    ensures frame { Frame gates.old gates.new }
     ensures within { IfOk result (λ l. IsWithin gates.new.vars l) }
     ensures value { IfOk result (λ l. (v : ℕ → Bool) → gate_value gates.new l v ≡ bvslt (length a.now) (gate_number gates.old a.now v) (gate_number gates.old b.now v)) }
 {

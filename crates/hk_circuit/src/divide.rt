@@ -1,14 +1,14 @@
 //! Division of words, with its remainder.
 
-ghost use Rattle.std.specs.Prelude.{◌≡◌, ◌≤◌, ◌<◌, ◌-◌, true, not, nat_eq, nat_lt, if◌then◌else◌, drop, ℕ, ℤ, Bool, List, IfOk, length, All};
-ghost use Rattle.hk_cnf.specs.Literal.{IsWithin, place_of};
-ghost use Rattle.hk_cnf.specs.Circuit.{Circuit, gate_value};
-ghost use Rattle.hk_cnf.specs.CircuitGrowth.{IsGrown, inputs_of};
+ghost use Rattle.std.specs.Prelude.{◌≡◌, ◌≤◌, ◌-◌, true, not, nat_eq, nat_lt, if◌then◌else◌, drop, ℕ, Bool, IfOk, length, All};
+ghost use Rattle.hk_cnf.specs.Literal.{IsWithin};
+ghost use Rattle.hk_cnf.specs.Circuit.{gate_value};
 ghost use Rattle.hk_term.specs.Operations.{udiv_value, urem_value, sdiv_value, srem_value};
 ghost use Rattle.hk_circuit.specs.Words.{gate_number, TellClear, differ, negated_by};
+ghost use Rattle.hk_circuit.specs.Frame.{Frame};
 
 use crate::adder::{Sum, add_with_carry, negate};
-use crate::bit::xor;
+use crate::bit::{and, xor};
 use crate::choice::choose_words;
 use crate::word::{complement, with_bit_below};
 use hk_cnf::{Gates, Lit};
@@ -42,11 +42,7 @@ fn clear_flags(
     requires word { All (IsWithin gates.old.vars) b.now }
     requires truth { IsWithin gates.old.vars truth }
     requires truth_is { (v : ℕ → Bool) → gate_value gates.old truth v ≡ true }
-    ensures vars { gates.old.vars ≤ gates.new.vars }
-    ensures keeps { (l : ℤ) → place_of l < gates.old.vars → (v : ℕ → Bool) → gate_value gates.new l v ≡ gate_value gates.old l v }
-    ensures grows { (c : Circuit) → IsGrown c gates.old → IsGrown c gates.new }
-    ensures inputs { inputs_of gates.new ≡ inputs_of gates.old }
-    ensures keeps_words { (ls : List ℤ) → All (IsWithin gates.old.vars) ls → (v : ℕ → Bool) → gate_number gates.new ls v ≡ gate_number gates.old ls v }
+    ensures frame { Frame gates.old gates.new }
     ensures size { IfOk result (λ w. length w.items ≡ length b.now) }
     ensures within { IfOk result (λ w. All (IsWithin gates.new.vars) w.items) }
     ensures value { IfOk result (λ w. TellClear gates.new w.items b.now) }
@@ -56,7 +52,7 @@ fn clear_flags(
     for k in 0..b.len() {
         flags.push(clear)?;
         let top = b.len() - 1 - k;
-        clear = gates.and(clear, b[top].negated())?;
+        clear = and(gates, clear, b[top].negated())?;
     }
     Ok(flags)
 }
@@ -78,11 +74,7 @@ fn difference(
     requires clear_is { (v : ℕ → Bool) → gate_value gates.old clear v ≡ nat_eq (gate_number gates.old (drop (length a.now) b.now) v) 0 }
     requires truth { IsWithin gates.old.vars truth }
     requires truth_is { (v : ℕ → Bool) → gate_value gates.old truth v ≡ true }
-    ensures vars { gates.old.vars ≤ gates.new.vars }
-    ensures keeps { (l : ℤ) → place_of l < gates.old.vars → (v : ℕ → Bool) → gate_value gates.new l v ≡ gate_value gates.old l v }
-    ensures grows { (c : Circuit) → IsGrown c gates.old → IsGrown c gates.new }
-    ensures inputs { inputs_of gates.new ≡ inputs_of gates.old }
-    ensures keeps_words { (ls : List ℤ) → All (IsWithin gates.old.vars) ls → (v : ℕ → Bool) → gate_number gates.new ls v ≡ gate_number gates.old ls v }
+    ensures frame { Frame gates.old gates.new }
     ensures size { IfOk result (λ d. length d.word.items ≡ length a.now) }
     ensures within { IfOk result (λ d. All (IsWithin gates.new.vars) d.word.items) }
     ensures fits_within { IfOk result (λ d. IsWithin gates.new.vars d.fits) }
@@ -93,7 +85,7 @@ fn difference(
     let other = complement(alloc, low)?;
     let sum = add_with_carry(alloc, gates, a, other.as_slice(), truth)?;
     let Sum { word, carry } = sum;
-    let fits = gates.and(carry, clear)?;
+    let fits = and(gates, carry, clear)?;
     Ok(Reduced { word, fits })
 }
 
@@ -113,11 +105,7 @@ fn reduce(
     requires clear_is { (v : ℕ → Bool) → gate_value gates.old clear v ≡ nat_eq (gate_number gates.old (drop (length a.now) b.now) v) 0 }
     requires truth { IsWithin gates.old.vars truth }
     requires truth_is { (v : ℕ → Bool) → gate_value gates.old truth v ≡ true }
-    ensures vars { gates.old.vars ≤ gates.new.vars }
-    ensures keeps { (l : ℤ) → place_of l < gates.old.vars → (v : ℕ → Bool) → gate_value gates.new l v ≡ gate_value gates.old l v }
-    ensures grows { (c : Circuit) → IsGrown c gates.old → IsGrown c gates.new }
-    ensures inputs { inputs_of gates.new ≡ inputs_of gates.old }
-    ensures keeps_words { (ls : List ℤ) → All (IsWithin gates.old.vars) ls → (v : ℕ → Bool) → gate_number gates.new ls v ≡ gate_number gates.old ls v }
+    ensures frame { Frame gates.old gates.new }
     ensures size { IfOk result (λ d. length d.word.items ≡ length a.now) }
     ensures within { IfOk result (λ d. All (IsWithin gates.new.vars) d.word.items) }
     ensures fits_within { IfOk result (λ d. IsWithin gates.new.vars d.fits) }
@@ -149,11 +137,7 @@ fn divide_with(
     requires clear { TellClear gates.old flags.now b.now }
     requires truth { IsWithin gates.old.vars truth }
     requires truth_is { (v : ℕ → Bool) → gate_value gates.old truth v ≡ true }
-    ensures vars { gates.old.vars ≤ gates.new.vars }
-    ensures keeps { (l : ℤ) → place_of l < gates.old.vars → (v : ℕ → Bool) → gate_value gates.new l v ≡ gate_value gates.old l v }
-    ensures grows { (c : Circuit) → IsGrown c gates.old → IsGrown c gates.new }
-    ensures inputs { inputs_of gates.new ≡ inputs_of gates.old }
-    ensures keeps_words { (ls : List ℤ) → All (IsWithin gates.old.vars) ls → (v : ℕ → Bool) → gate_number gates.new ls v ≡ gate_number gates.old ls v }
+    ensures frame { Frame gates.old gates.new }
     ensures quotient_size { IfOk result (λ d. length d.quotient.items ≡ length a.now) }
     ensures remainder_size { IfOk result (λ d. length d.remainder.items ≡ length a.now) }
     ensures quotient_within { IfOk result (λ d. All (IsWithin gates.new.vars) d.quotient.items) }
@@ -192,11 +176,7 @@ pub fn divide(
     requires second { All (IsWithin gates.old.vars) b.now }
     requires truth { IsWithin gates.old.vars truth }
     requires truth_is { (v : ℕ → Bool) → gate_value gates.old truth v ≡ true }
-    ensures vars { gates.old.vars ≤ gates.new.vars }
-    ensures keeps { (l : ℤ) → place_of l < gates.old.vars → (v : ℕ → Bool) → gate_value gates.new l v ≡ gate_value gates.old l v }
-    ensures grows { (c : Circuit) → IsGrown c gates.old → IsGrown c gates.new }
-    ensures inputs { inputs_of gates.new ≡ inputs_of gates.old }
-    ensures keeps_words { (ls : List ℤ) → All (IsWithin gates.old.vars) ls → (v : ℕ → Bool) → gate_number gates.new ls v ≡ gate_number gates.old ls v }
+    ensures frame { Frame gates.old gates.new }
     ensures quotient_size { IfOk result (λ d. length d.quotient.items ≡ length a.now) }
     ensures remainder_size { IfOk result (λ d. length d.remainder.items ≡ length a.now) }
     ensures quotient_within { IfOk result (λ d. All (IsWithin gates.new.vars) d.quotient.items) }
@@ -221,11 +201,7 @@ fn negate_where(
     requires word { All (IsWithin gates.old.vars) a.now }
     requires truth { IsWithin gates.old.vars truth }
     requires truth_is { (v : ℕ → Bool) → gate_value gates.old truth v ≡ true }
-    ensures vars { gates.old.vars ≤ gates.new.vars }
-    ensures keeps { (l : ℤ) → place_of l < gates.old.vars → (v : ℕ → Bool) → gate_value gates.new l v ≡ gate_value gates.old l v }
-    ensures grows { (c : Circuit) → IsGrown c gates.old → IsGrown c gates.new }
-    ensures inputs { inputs_of gates.new ≡ inputs_of gates.old }
-    ensures keeps_words { (ls : List ℤ) → All (IsWithin gates.old.vars) ls → (v : ℕ → Bool) → gate_number gates.new ls v ≡ gate_number gates.old ls v }
+    ensures frame { Frame gates.old gates.new }
     ensures size { IfOk result (λ w. length w.items ≡ length a.now) }
     ensures within { IfOk result (λ w. All (IsWithin gates.new.vars) w.items) }
     ensures value { IfOk result (λ w. (v : ℕ → Bool) → gate_number gates.new w.items v ≡ negated_by (gate_value gates.old sign v) (length a.now) (gate_number gates.old a.now v)) }
@@ -239,11 +215,7 @@ fn negate_where(
 fn differ(gates: &mut Gates, a: Lit, b: Lit) -> Result<Lit, AllocError>
     requires first { IsWithin gates.old.vars a }
     requires second { IsWithin gates.old.vars b }
-    ensures vars { gates.old.vars ≤ gates.new.vars }
-    ensures keeps { (l : ℤ) → place_of l < gates.old.vars → (v : ℕ → Bool) → gate_value gates.new l v ≡ gate_value gates.old l v }
-    ensures grows { (c : Circuit) → IsGrown c gates.old → IsGrown c gates.new }
-    ensures inputs { inputs_of gates.new ≡ inputs_of gates.old }
-    ensures keeps_words { (ls : List ℤ) → All (IsWithin gates.old.vars) ls → (v : ℕ → Bool) → gate_number gates.new ls v ≡ gate_number gates.old ls v }
+    ensures frame { Frame gates.old gates.new }
     ensures within { IfOk result (λ l. IsWithin gates.new.vars l) }
     ensures value { IfOk result (λ l. (v : ℕ → Bool) → gate_value gates.new l v ≡ differ (gate_value gates.old a v) (gate_value gates.old b v)) }
 {
@@ -268,11 +240,7 @@ fn divide_magnitudes(
     requires second { IsWithin gates.old.vars second }
     requires truth { IsWithin gates.old.vars truth }
     requires truth_is { (v : ℕ → Bool) → gate_value gates.old truth v ≡ true }
-    ensures vars { gates.old.vars ≤ gates.new.vars }
-    ensures keeps { (l : ℤ) → place_of l < gates.old.vars → (v : ℕ → Bool) → gate_value gates.new l v ≡ gate_value gates.old l v }
-    ensures grows { (c : Circuit) → IsGrown c gates.old → IsGrown c gates.new }
-    ensures inputs { inputs_of gates.new ≡ inputs_of gates.old }
-    ensures keeps_words { (ls : List ℤ) → All (IsWithin gates.old.vars) ls → (v : ℕ → Bool) → gate_number gates.new ls v ≡ gate_number gates.old ls v }
+    ensures frame { Frame gates.old gates.new }
     ensures quotient_size { IfOk result (λ d. length d.quotient.items ≡ length a.now) }
     ensures remainder_size { IfOk result (λ d. length d.remainder.items ≡ length a.now) }
     ensures quotient_within { IfOk result (λ d. All (IsWithin gates.new.vars) d.quotient.items) }
@@ -303,11 +271,7 @@ pub fn signed_divide(
     requires second { All (IsWithin gates.old.vars) b.now }
     requires truth { IsWithin gates.old.vars truth }
     requires truth_is { (v : ℕ → Bool) → gate_value gates.old truth v ≡ true }
-    ensures vars { gates.old.vars ≤ gates.new.vars }
-    ensures keeps { (l : ℤ) → place_of l < gates.old.vars → (v : ℕ → Bool) → gate_value gates.new l v ≡ gate_value gates.old l v }
-    ensures grows { (c : Circuit) → IsGrown c gates.old → IsGrown c gates.new }
-    ensures inputs { inputs_of gates.new ≡ inputs_of gates.old }
-    ensures keeps_words { (ls : List ℤ) → All (IsWithin gates.old.vars) ls → (v : ℕ → Bool) → gate_number gates.new ls v ≡ gate_number gates.old ls v }
+    ensures frame { Frame gates.old gates.new }
     ensures quotient_size { IfOk result (λ d. length d.quotient.items ≡ length a.now) }
     ensures remainder_size { IfOk result (λ d. length d.remainder.items ≡ length a.now) }
     ensures quotient_within { IfOk result (λ d. All (IsWithin gates.new.vars) d.quotient.items) }

@@ -1,11 +1,11 @@
 //! Products of words.
 
-ghost use Rattle.std.specs.Prelude.{◌≡◌, ◌≤◌, ◌<◌, ◌+◌, ◌-◌, ◌*◌, ◌^◌, ◌&&◌, ◌||◌, true, false, ◌%◌, nat_eq, nat_lt, bit_and, bit_or, bit_xor, ℕ, ℤ, Bool, List, IfOk, length, All, if◌then◌else◌};
-ghost use Rattle.hk_cnf.specs.Literal.{IsWithin, IsLiteral, place_of};
-ghost use Rattle.hk_cnf.specs.Circuit.{Circuit, gate_value};
-ghost use Rattle.hk_cnf.specs.CircuitGrowth.{IsGrown, inputs_of};
+ghost use Rattle.std.specs.Prelude.{◌≡◌, ◌≤◌, ◌*◌, ◌^◌, true, false, ◌%◌, ℕ, Bool, IfOk, length, All, if◌then◌else◌};
+ghost use Rattle.hk_cnf.specs.Literal.{IsWithin};
+ghost use Rattle.hk_cnf.specs.Circuit.{gate_value};
 ghost use Rattle.hk_num.specs.Numbers.{bvmul};
 ghost use Rattle.hk_circuit.specs.Words.{gate_number};
+ghost use Rattle.hk_circuit.specs.Frame.{Frame};
 
 use crate::adder::add;
 use crate::choice::choose_words;
@@ -27,11 +27,7 @@ fn partial_product(
     requires lit { IsWithin gates.old.vars lit }
     requires bottom { IsWithin gates.old.vars bottom }
     requires bottom_is { (v : ℕ → Bool) → gate_value gates.old bottom v ≡ false }
-    ensures vars { gates.old.vars ≤ gates.new.vars }
-    ensures keeps { (l : ℤ) → place_of l < gates.old.vars → (v : ℕ → Bool) → gate_value gates.new l v ≡ gate_value gates.old l v }
-    ensures grows { (c : Circuit) → IsGrown c gates.old → IsGrown c gates.new }
-    ensures inputs { inputs_of gates.new ≡ inputs_of gates.old }
-    ensures keeps_words { (ls : List ℤ) → All (IsWithin gates.old.vars) ls → (v : ℕ → Bool) → gate_number gates.new ls v ≡ gate_number gates.old ls v }
+    ensures frame { Frame gates.old gates.new }
     ensures size { IfOk result (λ w. length w.items ≡ length a.now) }
     ensures within { IfOk result (λ w. All (IsWithin gates.new.vars) w.items) }
     ensures value { IfOk result (λ w. (v : ℕ → Bool) → gate_number gates.new w.items v ≡ (if gate_value gates.old lit v then (gate_number gates.old a.now v * 2 ^ by) % 2 ^ length a.now else 0)) }
@@ -56,11 +52,7 @@ pub fn multiply(
     requires second { All (IsWithin gates.old.vars) b.now }
     requires truth { IsWithin gates.old.vars truth }
     requires truth_is { (v : ℕ → Bool) → gate_value gates.old truth v ≡ true }
-    ensures vars { gates.old.vars ≤ gates.new.vars }
-    ensures keeps { (l : ℤ) → place_of l < gates.old.vars → (v : ℕ → Bool) → gate_value gates.new l v ≡ gate_value gates.old l v }
-    ensures grows { (c : Circuit) → IsGrown c gates.old → IsGrown c gates.new }
-    ensures inputs { inputs_of gates.new ≡ inputs_of gates.old }
-    ensures keeps_words { (ls : List ℤ) → All (IsWithin gates.old.vars) ls → (v : ℕ → Bool) → gate_number gates.new ls v ≡ gate_number gates.old ls v }
+    ensures frame { Frame gates.old gates.new }
     ensures size { IfOk result (λ w. length w.items ≡ length a.now) }
     ensures within { IfOk result (λ w. All (IsWithin gates.new.vars) w.items) }
     ensures value { IfOk result (λ w. (v : ℕ → Bool) → gate_number gates.new w.items v ≡ bvmul (length a.now) (gate_number gates.old a.now v) (gate_number gates.old b.now v)) }

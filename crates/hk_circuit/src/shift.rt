@@ -1,11 +1,11 @@
 //! Shifts of words by words: barrel shifters, with a stage for each bit of the amount that is worth less than the width.
 
-ghost use Rattle.std.specs.Prelude.{◌≡◌, ◌≤◌, ◌<◌, ◌+◌, ◌-◌, ◌*◌, ◌^◌, ◌&&◌, ◌||◌, true, false, min, ◌/◌, ◌%◌, nat_eq, nat_lt, bit_and, bit_or, bit_xor, ℕ, ℤ, Bool, List, IfOk, length, All, if◌then◌else◌};
-ghost use Rattle.hk_cnf.specs.Literal.{IsWithin, IsLiteral, place_of};
-ghost use Rattle.hk_cnf.specs.Circuit.{Circuit, gate_value};
-ghost use Rattle.hk_cnf.specs.CircuitGrowth.{IsGrown, inputs_of};
+ghost use Rattle.std.specs.Prelude.{◌≡◌, ◌≤◌, ◌^◌, false, min, nat_eq, ℕ, Bool, IfOk, length, All, if◌then◌else◌};
+ghost use Rattle.hk_cnf.specs.Literal.{IsWithin};
+ghost use Rattle.hk_cnf.specs.Circuit.{gate_value};
 ghost use Rattle.hk_num.specs.Numbers.{bvshl, bvlshr, bvashr};
 ghost use Rattle.hk_circuit.specs.Words.{gate_number};
+ghost use Rattle.hk_circuit.specs.Frame.{Frame};
 
 use crate::bit::false_literal;
 use crate::bitwise::turn_where;
@@ -38,11 +38,7 @@ fn move_left(
     requires second { All (IsWithin gates.old.vars) amount.now }
     requires bottom { IsWithin gates.old.vars bottom }
     requires bottom_is { (v : ℕ → Bool) → gate_value gates.old bottom v ≡ false }
-    ensures vars { gates.old.vars ≤ gates.new.vars }
-    ensures keeps { (l : ℤ) → place_of l < gates.old.vars → (v : ℕ → Bool) → gate_value gates.new l v ≡ gate_value gates.old l v }
-    ensures grows { (c : Circuit) → IsGrown c gates.old → IsGrown c gates.new }
-    ensures inputs { inputs_of gates.new ≡ inputs_of gates.old }
-    ensures keeps_words { (ls : List ℤ) → All (IsWithin gates.old.vars) ls → (v : ℕ → Bool) → gate_number gates.new ls v ≡ gate_number gates.old ls v }
+    ensures frame { Frame gates.old gates.new }
     ensures size { IfOk result (λ w. length w.items ≡ length a.now) }
     ensures within { IfOk result (λ w. All (IsWithin gates.new.vars) w.items) }
     ensures value { IfOk result (λ w. (v : ℕ → Bool) → gate_number gates.new w.items v ≡ bvshl (length a.now) (gate_number gates.old a.now v) (gate_number gates.old amount.now v)) }
@@ -69,11 +65,7 @@ fn move_right(
     requires second { All (IsWithin gates.old.vars) amount.now }
     requires bottom { IsWithin gates.old.vars bottom }
     requires bottom_is { (v : ℕ → Bool) → gate_value gates.old bottom v ≡ false }
-    ensures vars { gates.old.vars ≤ gates.new.vars }
-    ensures keeps { (l : ℤ) → place_of l < gates.old.vars → (v : ℕ → Bool) → gate_value gates.new l v ≡ gate_value gates.old l v }
-    ensures grows { (c : Circuit) → IsGrown c gates.old → IsGrown c gates.new }
-    ensures inputs { inputs_of gates.new ≡ inputs_of gates.old }
-    ensures keeps_words { (ls : List ℤ) → All (IsWithin gates.old.vars) ls → (v : ℕ → Bool) → gate_number gates.new ls v ≡ gate_number gates.old ls v }
+    ensures frame { Frame gates.old gates.new }
     ensures size { IfOk result (λ w. length w.items ≡ length a.now) }
     ensures within { IfOk result (λ w. All (IsWithin gates.new.vars) w.items) }
     ensures value { IfOk result (λ w. (v : ℕ → Bool) → gate_number gates.new w.items v ≡ bvlshr (length a.now) (gate_number gates.old a.now v) (gate_number gates.old amount.now v)) }
@@ -112,11 +104,7 @@ fn zero_where_far(
     requires second { All (IsWithin gates.old.vars) high.now }
     requires bottom { IsWithin gates.old.vars bottom }
     requires bottom_is { (v : ℕ → Bool) → gate_value gates.old bottom v ≡ false }
-    ensures vars { gates.old.vars ≤ gates.new.vars }
-    ensures keeps { (l : ℤ) → place_of l < gates.old.vars → (v : ℕ → Bool) → gate_value gates.new l v ≡ gate_value gates.old l v }
-    ensures grows { (c : Circuit) → IsGrown c gates.old → IsGrown c gates.new }
-    ensures inputs { inputs_of gates.new ≡ inputs_of gates.old }
-    ensures keeps_words { (ls : List ℤ) → All (IsWithin gates.old.vars) ls → (v : ℕ → Bool) → gate_number gates.new ls v ≡ gate_number gates.old ls v }
+    ensures frame { Frame gates.old gates.new }
     ensures size { IfOk result (λ w. length w.items ≡ length a.now) }
     ensures within { IfOk result (λ w. All (IsWithin gates.new.vars) w.items) }
     ensures value { IfOk result (λ w. (v : ℕ → Bool) → gate_number gates.new w.items v ≡ (if nat_eq (gate_number gates.old high.now v) 0 then gate_number gates.old a.now v else 0)) }
@@ -140,11 +128,7 @@ pub fn shift_left(
     requires second { All (IsWithin gates.old.vars) amount.now }
     requires bottom { IsWithin gates.old.vars bottom }
     requires bottom_is { (v : ℕ → Bool) → gate_value gates.old bottom v ≡ false }
-    ensures vars { gates.old.vars ≤ gates.new.vars }
-    ensures keeps { (l : ℤ) → place_of l < gates.old.vars → (v : ℕ → Bool) → gate_value gates.new l v ≡ gate_value gates.old l v }
-    ensures grows { (c : Circuit) → IsGrown c gates.old → IsGrown c gates.new }
-    ensures inputs { inputs_of gates.new ≡ inputs_of gates.old }
-    ensures keeps_words { (ls : List ℤ) → All (IsWithin gates.old.vars) ls → (v : ℕ → Bool) → gate_number gates.new ls v ≡ gate_number gates.old ls v }
+    ensures frame { Frame gates.old gates.new }
     ensures size { IfOk result (λ w. length w.items ≡ length a.now) }
     ensures within { IfOk result (λ w. All (IsWithin gates.new.vars) w.items) }
     ensures value { IfOk result (λ w. (v : ℕ → Bool) → gate_number gates.new w.items v ≡ bvshl (length a.now) (gate_number gates.old a.now v) (gate_number gates.old amount.now v)) }
@@ -173,11 +157,7 @@ pub fn shift_right(
     requires second { All (IsWithin gates.old.vars) amount.now }
     requires bottom { IsWithin gates.old.vars bottom }
     requires bottom_is { (v : ℕ → Bool) → gate_value gates.old bottom v ≡ false }
-    ensures vars { gates.old.vars ≤ gates.new.vars }
-    ensures keeps { (l : ℤ) → place_of l < gates.old.vars → (v : ℕ → Bool) → gate_value gates.new l v ≡ gate_value gates.old l v }
-    ensures grows { (c : Circuit) → IsGrown c gates.old → IsGrown c gates.new }
-    ensures inputs { inputs_of gates.new ≡ inputs_of gates.old }
-    ensures keeps_words { (ls : List ℤ) → All (IsWithin gates.old.vars) ls → (v : ℕ → Bool) → gate_number gates.new ls v ≡ gate_number gates.old ls v }
+    ensures frame { Frame gates.old gates.new }
     ensures size { IfOk result (λ w. length w.items ≡ length a.now) }
     ensures within { IfOk result (λ w. All (IsWithin gates.new.vars) w.items) }
     ensures value { IfOk result (λ w. (v : ℕ → Bool) → gate_number gates.new w.items v ≡ bvlshr (length a.now) (gate_number gates.old a.now v) (gate_number gates.old amount.now v)) }
@@ -205,11 +185,7 @@ pub fn shift_right_signed(
     requires some { 1 ≤ length a.now }
     requires first { All (IsWithin gates.old.vars) a.now }
     requires second { All (IsWithin gates.old.vars) amount.now }
-    ensures vars { gates.old.vars ≤ gates.new.vars }
-    ensures keeps { (l : ℤ) → place_of l < gates.old.vars → (v : ℕ → Bool) → gate_value gates.new l v ≡ gate_value gates.old l v }
-    ensures grows { (c : Circuit) → IsGrown c gates.old → IsGrown c gates.new }
-    ensures inputs { inputs_of gates.new ≡ inputs_of gates.old }
-    ensures keeps_words { (ls : List ℤ) → All (IsWithin gates.old.vars) ls → (v : ℕ → Bool) → gate_number gates.new ls v ≡ gate_number gates.old ls v }
+    ensures frame { Frame gates.old gates.new }
     ensures size { IfOk result (λ w. length w.items ≡ length a.now) }
     ensures within { IfOk result (λ w. All (IsWithin gates.new.vars) w.items) }
     ensures value { IfOk result (λ w. (v : ℕ → Bool) → gate_number gates.new w.items v ≡ bvashr (length a.now) (gate_number gates.old a.now v) (gate_number gates.old amount.now v)) }

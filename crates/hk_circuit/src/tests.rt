@@ -189,7 +189,7 @@ fn a_division_of_two_bits_takes_26_gates(rt: HostRuntime) -> Result<(), Fail> {
     let before = gates.sizes();
     let _ = divide(rt.alloc(), &mut gates, a.as_slice(), b.as_slice(), truth)?;
     let after = gates.sizes();
-    assert_eq!(rt; after.gates - before.gates, 26);
+    assert_eq!(rt; after.gates.checked_sub(before.gates), Some(26));
     Ok(())
 }
 

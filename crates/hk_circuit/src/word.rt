@@ -1,9 +1,8 @@
 //! Words that need no gate.
 
-ghost use Rattle.std.specs.Prelude.{◌≡◌, ◌≤◌, ◌<◌, ◌+◌, ◌-◌, ◌*◌, ◌^◌, ◌&&◌, ◌||◌, not, true, nat_eq, nat_lt, bit_and, bit_or, bit_xor, replicate, take, drop, neg_ℤ, slice_index_or, pos, ◌++◌, ◌∷◌, [], ◌/◌, ◌%◌, false, ℕ, ℤ, Bool, List, IfOk, length, All, if◌then◌else◌};
-ghost use Rattle.hk_cnf.specs.Literal.{IsWithin, IsLiteral, place_of};
+ghost use Rattle.std.specs.Prelude.{◌≡◌, ◌≤◌, ◌<◌, ◌+◌, ◌-◌, ◌*◌, ◌^◌, true, nat_eq, replicate, take, drop, neg_ℤ, slice_index_or, pos, ◌++◌, ◌∷◌, [], ◌/◌, ◌%◌, false, ℕ, Bool, IfOk, length, All, if◌then◌else◌};
+ghost use Rattle.hk_cnf.specs.Literal.{IsWithin, IsLiteral};
 ghost use Rattle.hk_cnf.specs.Circuit.{Circuit, gate_value};
-ghost use Rattle.hk_cnf.specs.CircuitGrowth.{IsGrown, inputs_of};
 ghost use Rattle.hk_num.specs.Numbers.{sign_extend};
 ghost use Rattle.hk_circuit.specs.Words.{gate_number};
 

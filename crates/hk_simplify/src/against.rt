@@ -1,15 +1,14 @@
-//! Comparisons with a number: of sums, choices between numbers, extensions and concatenations.
+//! Equalities with a number: of sums, choices between numbers, extensions and concatenations.
 
-ghost use Rattle.std.specs.Prelude.{◌≡◌, ℕ, ◌+◌, ◌*◌, ◌^◌, ◌<◌, ◌≤◌, length, nat_eq, nat_lt, bit_and, if◌then◌else◌, IfSome};
-ghost use Rattle.hk_num.specs.Numbers.{sign_extend};
+ghost use Rattle.std.specs.Prelude.{◌≡◌, ℕ, ◌+◌, ◌*◌, ◌^◌, ◌<◌, ◌≤◌, length, nat_eq, bit_and, if◌then◌else◌, IfSome};
 ghost use Rattle.hk_term.specs.Operations.{bit, resize_value, ResizeFits};
-ghost use Rattle.hk_term.specs.Shape.{IsWidth, width};
+ghost use Rattle.hk_term.specs.Shape.{width};
 ghost use Rattle.hk_term.specs.Meaning.{Reading, value};
 ghost use Rattle.hk_simplify.specs.Forms.{FormFits, form_width, form_value};
 
 use crate::constants::{constant, greatest, number, sized};
 use crate::form::Form;
-use crate::plain::{binary_number, number_binary, undone};
+use crate::plain::{binary_number, undone};
 use crate::structure::resize_of;
 use crate::sums::sum_of;
 use hk_term::{Node, TermId, TermKind, TermResize, Terms, UnaryKind};
@@ -127,96 +126,6 @@ fn eq_choice(t: &Terms, condition: TermId, first: u64, second: u64, n: u64) -> F
         undone(t, UnaryKind::Not, condition)
     } else {
         number(1, 0)
-    }
-}
-
-// Whether a term is less than a number of its width.
-pub(crate) fn ult_number(t: &Terms, a: TermId, n: u64) -> Form
-    requires term { a < length t.now }
-    requires number { n < 2 ^ width t.now a }
-    ensures fits { FormFits t.now result }
-    ensures width { form_width t.now result ≡ 1 }
-    ensures value { (v : Reading) → form_value t.now result v ≡ bit (nat_lt (value t.now a v) n) }
-{
-    match resize_of(t, a) {
-        Some(made) => ult_resized(t, a, n, made.kind, made.of),
-        None => binary_number(t, TermKind::Ult, a, n),
-    }
-}
-
-// The same of a term that is itself a term `x` at another width.
-fn ult_resized(t: &Terms, a: TermId, n: u64, kind: TermResize, x: TermId) -> Form
-    requires term { a < length t.now }
-    requires number { n < 2 ^ width t.now a }
-    requires earlier { x < a }
-    requires fits { ResizeFits kind (width t.now x) (width t.now a) }
-    requires known { (v : Reading) → value t.now a v ≡ resize_value kind (width t.now x) (width t.now a) (value t.now x v) }
-    ensures fits { FormFits t.now result }
-    ensures width { form_width t.now result ≡ 1 }
-    ensures value { (v : Reading) → form_value t.now result v ≡ bit (nat_lt (value t.now a v) n) }
-{
-    let w = sized(t, a);
-    let u = sized(t, x);
-    match kind {
-        TermResize::Zero if n <= greatest(u) => binary_number(t, TermKind::Ult, x, n),
-        TermResize::Zero => number(1, 1),
-        TermResize::Sign => binary_number(t, TermKind::Ult, x, limit_of(u, w, n)),
-        TermResize::Extract { .. } => binary_number(t, TermKind::Ult, a, n),
-    }
-}
-
-// The number below which the numbers of width u are whose extensions by copies of the sign to width w are below another.
-fn limit_of(u: u32, w: u32, n: u64) -> u64
-    requires width { IsWidth u }
-    requires wider { u ≤ w }
-    requires within { w ≤ 64 }
-    requires number { n < 2 ^ w }
-    ensures number { result < 2 ^ u }
-    ensures limit { (x : ℕ) → x < 2 ^ u → nat_lt x result ≡ nat_lt (sign_extend u w x) n }
-{
-    let half = greatest(u) / 2 + 1;
-    let above = greatest(w) - greatest(u);
-    if n <= half {
-        n
-    } else if n - half <= above {
-        half
-    } else {
-        n - above
-    }
-}
-
-// Whether a number is less than a term of its width.
-pub(crate) fn number_ult(t: &Terms, n: u64, a: TermId) -> Form
-    requires term { a < length t.now }
-    requires number { n < 2 ^ width t.now a }
-    ensures fits { FormFits t.now result }
-    ensures width { form_width t.now result ≡ 1 }
-    ensures value { (v : Reading) → form_value t.now result v ≡ bit (nat_lt n (value t.now a v)) }
-{
-    match zeros_of(t, a) {
-        Some(x) if n < greatest(t.width(x)) => number_binary(t, TermKind::Ult, n, x),
-        Some(_) => number(1, 0),
-        None => number_binary(t, TermKind::Ult, n, a),
-    }
-}
-
-// The term of which a term is the extension by zeros.
-fn zeros_of(t: &Terms, a: TermId) -> Option<TermId>
-    requires { a < length t.now }
-    ensures within { IfSome result (λ x. x < length t.now) }
-    ensures below { IfSome result (λ x. (v : Reading) → value t.now x v < 2 ^ width t.now x) }
-    ensures value { IfSome result (λ x. (v : Reading) → value t.now a v ≡ value t.now x v) }
-{
-    match t.node(a) {
-        Node::Resize {
-            kind: TermResize::Zero,
-            a: x,
-            ..
-        } => {
-            let _w = sized(t, *x);
-            Some(*x)
-        }
-        _ => None,
     }
 }
 

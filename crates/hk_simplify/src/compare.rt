@@ -7,10 +7,11 @@ ghost use Rattle.hk_term.specs.Meaning.{Reading, value};
 ghost use Rattle.hk_simplify.specs.Adding.{Adds};
 ghost use Rattle.hk_simplify.specs.Forms.{FormFits, form_width, form_value};
 
-use crate::against::{Halves, eq_number, halves_of, number_ult, ult_number};
+use crate::against::{Halves, eq_number, halves_of};
 use crate::bitwise::and;
 use crate::constants::{constant, is_least, is_most, is_number, is_ones, number};
 use crate::form::{Form, make};
+use crate::limits::{number_ult, ult_number};
 use crate::plain::{binary, commuted, undone};
 use crate::sums::coincidence;
 use hk_term::{TermId, TermKind, Terms, UnaryKind};

@@ -13,6 +13,7 @@ mod choice;
 mod compare;
 mod constants;
 mod form;
+mod limits;
 mod plain;
 mod quantify;
 mod shift;

@@ -496,6 +496,9 @@ enum Made {
     Signs,
     Choice,
     Pair,
+    // A byte above the number 5, and one below the number 2.
+    Upper,
+    Lower,
 }
 
 fn made_of(t: &mut Terms, which: Made) -> Result<TermId, AllocError>
@@ -509,6 +512,8 @@ fn made_of(t: &mut Terms, which: Made) -> Result<TermId, AllocError>
         Made::Signs => extended_byte(t, true),
         Made::Choice => five_or_nine(t),
         Made::Pair => two_bytes(t),
+        Made::Upper => above_five(t),
+        Made::Lower => below_two(t),
     }
 }
 
@@ -549,6 +554,26 @@ fn two_bytes(t: &mut Terms) -> Result<TermId, AllocError>
     let x = variable(t, 8, 1)?;
     let y = variable(t, 8, 2)?;
     let both = concat(t, x, y)?;
+    Ok(both)
+}
+
+fn above_five(t: &mut Terms) -> Result<TermId, AllocError>
+    ensures within { IfOk result (λ r. r < length t.new) }
+    ensures width { IfOk result (λ r. width t.new r ≡ 16) }
+{
+    let x = variable(t, 8, 1)?;
+    let five = constant(t, 8, 5)?;
+    let both = concat(t, x, five)?;
+    Ok(both)
+}
+
+fn below_two(t: &mut Terms) -> Result<TermId, AllocError>
+    ensures within { IfOk result (λ r. r < length t.new) }
+    ensures width { IfOk result (λ r. width t.new r ≡ 16) }
+{
+    let two = constant(t, 8, 2)?;
+    let y = variable(t, 8, 2)?;
+    let both = concat(t, two, y)?;
     Ok(both)
 }
 
@@ -611,6 +636,15 @@ fn operations_with_numbers_are_simplified(rt: HostRuntime) -> Result<(), AllocEr
         (Made::Choice, TermKind::Eq, 5, Is(Shape::Variable(7))),
         (Made::Choice, TermKind::Eq, 7, Is(Shape::Number(0))),
         (Made::Pair, TermKind::Eq, 4660, Is(Shape::Pair(5, 7))),
+        (Made::Pair, TermKind::Ult, 768, With(TermKind::Ult, 3)),
+        (Made::Pair, TermKind::Ult, 769, With(TermKind::Ult, 769)),
+        (Made::Upper, TermKind::Ult, 774, With(TermKind::Ult, 4)),
+        (Made::Upper, TermKind::Ult, 773, With(TermKind::Ult, 3)),
+        (Made::Upper, TermKind::Ult, 5, Is(Shape::Number(0))),
+        (Made::Upper, TermKind::Ult, 65286, Is(Shape::Number(1))),
+        (Made::Lower, TermKind::Ult, 519, With(TermKind::Ult, 7)),
+        (Made::Lower, TermKind::Ult, 768, Is(Shape::Number(1))),
+        (Made::Lower, TermKind::Ult, 511, Is(Shape::Number(0))),
     ];
     for (which, kind, n, answer) in rows {
         assert!(rt; n < 65536);
@@ -619,6 +653,55 @@ fn operations_with_numbers_are_simplified(rt: HostRuntime) -> Result<(), AllocEr
             answer,
             "{which:?} {kind:?} {n}"
         );
+    }
+    Ok(())
+}
+
+// What the order of a number and a term gives: an order of a number, or another term.
+fn ordered(alloc: Global, n: u64, which: Made) -> Result<Outcome, AllocError>
+    requires { n < 2 ^ 16 }
+{
+    let mut t = Terms::new(alloc);
+    let a = made_of(&mut t, which)?;
+    let b = constant(&mut t, 16, n)?;
+    let r = build(&mut t, TermKind::Ult, b, a)?;
+    Ok(seen_before(&t, r))
+}
+
+fn seen_before(t: &Terms, a: TermId) -> Outcome
+    requires { a < length t.now }
+{
+    match t.node(a) {
+        Node::Binary { kind, a: first, .. } => with(t, *kind, a, *first),
+        _ => Outcome::Is(shape_of(t, a)),
+    }
+}
+
+#[test]
+fn numbers_below_terms_are_simplified(rt: HostRuntime) -> Result<(), AllocError> {
+    use Outcome::{Is, With};
+    let rows = [
+        (100, Made::Word, With(TermKind::Ult, 100)),
+        (65535, Made::Word, Is(Shape::Number(0))),
+        (100, Made::Zeros, With(TermKind::Ult, 100)),
+        (255, Made::Zeros, Is(Shape::Number(0))),
+        (100, Made::Signs, With(TermKind::Ult, 100)),
+        (300, Made::Signs, With(TermKind::Ult, 127)),
+        (65407, Made::Signs, With(TermKind::Ult, 127)),
+        (65415, Made::Signs, With(TermKind::Ult, 135)),
+        (767, Made::Pair, With(TermKind::Ult, 2)),
+        (768, Made::Pair, With(TermKind::Ult, 768)),
+        (773, Made::Upper, With(TermKind::Ult, 3)),
+        (772, Made::Upper, With(TermKind::Ult, 2)),
+        (4, Made::Upper, Is(Shape::Number(1))),
+        (65285, Made::Upper, Is(Shape::Number(0))),
+        (518, Made::Lower, With(TermKind::Ult, 6)),
+        (511, Made::Lower, Is(Shape::Number(1))),
+        (767, Made::Lower, Is(Shape::Number(0))),
+    ];
+    for (n, which, answer) in rows {
+        assert!(rt; n < 65536);
+        assert_eq!(rt; ordered(rt.alloc(), n, which)?, answer, "{n} {which:?}");
     }
     Ok(())
 }

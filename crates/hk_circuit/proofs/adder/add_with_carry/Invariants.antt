@@ -1,16 +1,13 @@
-use Rattle.std.proofs.Common.{◌≡◌, ◌≤◌, ◌<◌, ◌+◌, ◌*◌, ◌^◌, ℕ, ℤ, Bool, length, take, All}
-use Rattle.hk_cnf.specs.Literal.{IsWithin, place_of}
-use Rattle.hk_cnf.specs.Circuit.{Circuit, gate_value}
-use Rattle.hk_cnf.specs.CircuitGrowth.{IsGrown, inputs_of}
+use Rattle.std.proofs.Common.{◌≡◌, ◌+◌, ◌*◌, ◌^◌, ℕ, Bool, length, take, All}
+use Rattle.hk_cnf.specs.Literal.{IsWithin}
+use Rattle.hk_cnf.specs.Circuit.{gate_value}
 use Rattle.hk_circuit.specs.Words.{bit, gate_number}
+use Rattle.hk_circuit.specs.Frame.{Frame}
 use Rattle.hk_circuit.proofs.adder.add_with_carry.Given as goal
 
 abbrev pub invariant-loop-i : goal.invariant-loop-i
 invariant-loop-i l = record {
-  vars : l.initial.gates.vars ≤ l.gates.vars;
-  keeps : (x : ℤ) → place_of x < l.initial.gates.vars → (v : ℕ → Bool) → gate_value l.gates x v ≡ gate_value l.initial.gates x v;
-  grows : (c : Circuit) → IsGrown c l.initial.gates → IsGrown c l.gates;
-  inputs : inputs_of l.gates ≡ inputs_of l.initial.gates;
+  frame : Frame l.initial.gates l.gates;
   size : length l.word.items ≡ l.i;
   word_within : All (IsWithin l.gates.vars) l.word.items;
   carry_within : IsWithin l.gates.vars l.carry;

@@ -1,18 +1,12 @@
 use Rattle.std.proofs.Common.{◌≡◌, ◌+◌, ◌*◌, ◌^◌, bit_xor, Bool, [], ◌∷◌, ◌++◌, take, All, subst, sym, ◌∙◌, ap, arith}
 use Rattle.hk_cnf.specs.Literal.{IsWithin}
+use Rattle.std.proofs.lemmas.List.{take_all}
 use Rattle.hk_cnf.specs.Circuit.{gate_value}
 use Rattle.hk_circuit.specs.Words.{bit, gate_number}
-use Rattle.hk_circuit.proofs.WordNumbers.{at, through, words, within-push, size-push, number-pushed, number-next, front-below}
+use Rattle.hk_circuit.proofs.Frames.{followed}
+use Rattle.hk_circuit.proofs.WordNumbers.{at, within-push, size-push, number-pushed, number-next, front-below}
 use Rattle.hk_circuit.proofs.BitPairs.{xor-step}
 use Rattle.hk_circuit.proofs.bitwise.xor_words.Goals as goal
-
-pub returns-in_err-lit-clause-keeps_words : goal.returns-in_err-lit-clause-keeps_words
-returns-in_err-lit-clause-keeps_words c =
-    words c.args.gates.now c.xor.new.gates (through c.args.gates.now c.loop-i.gates c.xor.new.gates c.loop-i.invariant.vars c.loop-i.invariant.keeps c.xor.ensures.keeps)
-
-pub returns-in_err-push-clause-keeps_words : goal.returns-in_err-push-clause-keeps_words
-returns-in_err-push-clause-keeps_words c =
-    words c.args.gates.now c.xor.new.gates (through c.args.gates.now c.loop-i.gates c.xor.new.gates c.loop-i.invariant.vars c.loop-i.invariant.keeps c.in_ok-lit.ensures.keeps)
 
 pub loop-i-preserved : goal.loop-i-preserved
 loop-i-preserved c =
@@ -24,23 +18,27 @@ loop-i-preserved c =
     let wa : IsWithin start.vars a = at start.vars c.args.a.now c.loop-i.i a c.requires.first (omega arith) c.index-a-i.is in
     let wb : IsWithin start.vars b = at start.vars c.args.b.now c.loop-i.i b c.requires.second (omega arith) c.index-b-i.is in
     record {
-      vars = omega (arith, i.vars, e.vars);
-      keeps = through start c.loop-i.gates c.xor.new.gates i.vars i.keeps e.keeps;
-      grows = λ x g. e.grows x (i.grows x g);
-      inputs = e.inputs ∙ i.inputs;
+      frame = followed i.frame e.frame;
       size = size-push c.loop-i.word.items c.push.new.self.items c.in_ok-lit.lit c.loop-i.i grown i.size;
-      within = subst (λ w. All (IsWithin c.xor.new.gates.vars) w) (sym grown) (within-push c.loop-i.gates.vars c.xor.new.gates.vars c.loop-i.word.items c.in_ok-lit.lit e.vars i.within e.within);
+      within = subst (λ w. All (IsWithin c.xor.new.gates.vars) w) (sym grown) (within-push c.loop-i.gates.vars c.xor.new.gates.vars c.loop-i.word.items c.in_ok-lit.lit e.frame.vars i.within e.within);
       value = λ v.
           let x : Bool = gate_value c.loop-i.gates a v in let y : Bool = gate_value c.loop-i.gates b v in
-          let na : gate_number start (take (c.loop-i.i + 1) c.args.a.now) v ≡ gate_number start (take c.loop-i.i c.args.a.now) v + 2 ^ c.loop-i.i * bit x = number-next start c.loop-i.gates c.args.a.now c.loop-i.i a v (omega arith) c.index-a-i.is (i.keeps a wa.below v) in
-          let nb : gate_number start (take (c.loop-i.i + 1) c.args.b.now) v ≡ gate_number start (take c.loop-i.i c.args.b.now) v + 2 ^ c.loop-i.i * bit y = number-next start c.loop-i.gates c.args.b.now c.loop-i.i b v (omega arith) c.index-b-i.is (i.keeps b wb.below v) in
+          let na : gate_number start (take (c.loop-i.i + 1) c.args.a.now) v ≡ gate_number start (take c.loop-i.i c.args.a.now) v + 2 ^ c.loop-i.i * bit x = number-next start c.loop-i.gates c.args.a.now c.loop-i.i a v (omega arith) c.index-a-i.is (i.frame.keeps a wa.below v) in
+          let nb : gate_number start (take (c.loop-i.i + 1) c.args.b.now) v ≡ gate_number start (take c.loop-i.i c.args.b.now) v + 2 ^ c.loop-i.i * bit y = number-next start c.loop-i.gates c.args.b.now c.loop-i.i b v (omega arith) c.index-b-i.is (i.frame.keeps b wb.below v) in
           ap (λ w. gate_number c.xor.new.gates w v) grown
-          ∙ (number-pushed c.loop-i.gates c.xor.new.gates c.loop-i.gates.vars c.loop-i.i c.loop-i.word.items c.in_ok-lit.lit v i.size i.within e.keeps
+          ∙ (number-pushed c.loop-i.gates c.xor.new.gates c.loop-i.gates.vars c.loop-i.i c.loop-i.word.items c.in_ok-lit.lit v i.size i.within e.frame.keeps
           ∙ ((λ j. i.value v j + 2 ^ c.loop-i.i * bit (e.value v j))
           ∙ (xor-step c.loop-i.i (gate_number start (take c.loop-i.i c.args.a.now) v) (gate_number start (take c.loop-i.i c.args.b.now) v) x y
           (front-below start c.args.a.now c.loop-i.i v (omega arith)) (front-below start c.args.b.now c.loop-i.i v (omega arith))
           ∙ (λ j. bit_xor (sym na j) (sym nb j)))));
     }
 
-pub returns-clause-keeps_words : goal.returns-clause-keeps_words
-returns-clause-keeps_words c = words c.args.gates.now c.loop-i.gates c.loop-i.invariant.keeps
+pub returns-in_err-push-clause-frame : goal.returns-in_err-push-clause-frame
+returns-in_err-push-clause-frame c = followed c.loop-i.invariant.frame c.in_ok-lit.ensures.frame
+
+pub returns-clause-value : goal.returns-clause-value
+returns-clause-value c = λ v.
+    let ta = take_all c.loop-i.i c.args.a.now (omega arith) in
+    let tb = take_all c.loop-i.i c.args.b.now (omega (arith, c.requires.same)) in
+    let start = c.args.gates.now in
+    c.loop-i.invariant.value v ∙ (λ j. bit_xor (gate_number start (ta j) v) (gate_number start (tb j) v))

@@ -2,13 +2,10 @@ use Rattle.std.proofs.Common.{◌||◌, not, nat_eq, ℕ, Bool, take, sym, ◌�
 use Rattle.hk_cnf.specs.Literal.{IsWithin}
 use Rattle.hk_cnf.specs.Circuit.{gate_value}
 use Rattle.hk_circuit.specs.Words.{gate_number}
-use Rattle.hk_circuit.proofs.WordNumbers.{at, through, words, number-next}
+use Rattle.hk_circuit.proofs.Frames.{followed}
+use Rattle.hk_circuit.proofs.WordNumbers.{at, number-next}
 use Rattle.hk_circuit.proofs.FarShifts.{nonzero-step}
 use Rattle.hk_circuit.proofs.compare.is_nonzero.Goals as goal
-
-pub returns-in_err-any-clause-keeps_words : goal.returns-in_err-any-clause-keeps_words
-returns-in_err-any-clause-keeps_words c =
-    words c.args.gates.now c.or.new.gates (through c.args.gates.now c.loop-i.gates c.or.new.gates c.loop-i.invariant.vars c.loop-i.invariant.keeps c.or.ensures.keeps)
 
 pub loop-i-preserved : goal.loop-i-preserved
 loop-i-preserved c =
@@ -19,18 +16,12 @@ loop-i-preserved c =
     let k : ℕ = c.loop-i.i in
     let wx : IsWithin start.vars x = at start.vars c.args.a.now k x c.requires.word (omega arith) c.index-a-i.is in
     record {
-      vars = omega (arith, i.vars, e.vars);
-      keeps = through start c.loop-i.gates c.or.new.gates i.vars i.keeps e.keeps;
-      grows = λ d g. e.grows d (i.grows d g);
-      inputs = e.inputs ∙ i.inputs;
+      frame = followed i.frame e.frame;
       within = e.within;
       value = λ v.
           let b : Bool = gate_value c.loop-i.gates x v in
           e.value v
           ∙ (ap (λ t. t || b) (i.value v)
           ∙ (nonzero-step (gate_number start (take k c.args.a.now) v) k b
-          ∙ ap (λ n. not (nat_eq n 0)) (sym (number-next start c.loop-i.gates c.args.a.now k x v (omega arith) c.index-a-i.is (i.keeps x wx.below v)))));
+          ∙ ap (λ n. not (nat_eq n 0)) (sym (number-next start c.loop-i.gates c.args.a.now k x v (omega arith) c.index-a-i.is (i.frame.keeps x wx.below v)))));
     }
-
-pub returns-clause-keeps_words : goal.returns-clause-keeps_words
-returns-clause-keeps_words c = words c.args.gates.now c.loop-i.gates c.loop-i.invariant.keeps

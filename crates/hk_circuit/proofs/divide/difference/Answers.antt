@@ -3,7 +3,7 @@ use Rattle.std.proofs.lemmas.List.Elements.{All-take}
 use Rattle.hk_cnf.specs.Literal.{IsWithin, IsLiteral}
 use Rattle.hk_cnf.specs.Circuit.{gate_value}
 use Rattle.hk_circuit.specs.Words.{bit, gate_number}
-use Rattle.hk_circuit.proofs.WordNumbers.{through, words, number-below, front-below}
+use Rattle.hk_circuit.proofs.WordNumbers.{words, number-below, front-below}
 use Rattle.hk_circuit.proofs.WordArithmetic.{number-split}
 use Rattle.hk_circuit.proofs.LongDivision.{fits-is, fitting-is}
 use Rattle.hk_circuit.proofs.divide.difference.Goals as goal
@@ -13,10 +13,6 @@ add_with_carry-requires-clause-second c =
     let n : ℕ = c.args.gates.now.vars in
     subst (λ ls. All (IsWithin n) ls) (sym c.as_slice.ensures.value)
     (c.in_ok-other.ensures.within n (subst (λ ls. All (IsWithin n) ls) (sym c.split_at.ensures.front) (All-take (IsWithin n) (length c.args.a.now) c.args.b.now c.requires.second)))
-
-pub returns-clause-keeps_words : goal.returns-clause-keeps_words
-returns-clause-keeps_words c =
-    words c.args.gates.now c.and.new.self (through c.args.gates.now c.add_with_carry.new.gates c.and.new.self c.in_ok-sum.ensures.vars c.in_ok-sum.ensures.keeps c.in_ok-fits.ensures.keeps)
 
 pub returns-clause-fits : goal.returns-clause-fits
 returns-clause-fits c = λ v.
@@ -36,7 +32,7 @@ returns-clause-fits c = λ v.
     ap (λ ls. gate_number start ls v) c.as_slice.ensures.value
     ∙ (c.in_ok-other.ensures.value start (literals _ c.split_at.ensures.front) v ∙ (λ k. 2 ^ c.split_at.ensures.front_len k - 1 - gate_number start (c.split_at.ensures.front k) v)) in
     let sum : s + 2 ^ j * bit x ≡ a + o + 1 = e.value v ∙ ap (λ t. a + o + bit t) (c.requires.truth_is v) in
-    let clear : gate_value g c.args.clear v ≡ nat_eq high 0 = e.keeps c.args.clear c.requires.clear.below v ∙ c.requires.clear_is v in
+    let clear : gate_value g c.args.clear v ≡ nat_eq high 0 = e.frame.keeps c.args.clear c.requires.clear.below v ∙ c.requires.clear_is v in
     c.in_ok-fits.ensures.value v
     ∙ (ap (λ t. x && t) clear
     ∙ fits-is s a o b low high (2 ^ j) x sum other (number-split start c.args.b.now j v c.requires.wider) (front-below start c.args.b.now j v c.requires.wider) (number-below start c.args.a.now v)
@@ -60,6 +56,6 @@ returns-clause-value c = λ v h.
     ap (λ ls. gate_number start ls v) c.as_slice.ensures.value
     ∙ (c.in_ok-other.ensures.value start (literals _ c.split_at.ensures.front) v ∙ (λ k. 2 ^ c.split_at.ensures.front_len k - 1 - gate_number start (c.split_at.ensures.front k) v)) in
     let sum : s + 2 ^ j * bit x ≡ a + o + 1 = e.value v ∙ ap (λ t. a + o + bit t) (c.requires.truth_is v) in
-    words g c.and.new.self c.in_ok-fits.ensures.keeps c.in_ok-sum.sum.word.items e.word_within v
+    words g c.and.new.gates c.in_ok-fits.ensures.frame.keeps c.in_ok-sum.sum.word.items e.word_within v
     ∙ fitting-is s a o b low high (2 ^ j) x sum other (number-split start c.args.b.now j v c.requires.wider) (front-below start c.args.b.now j v c.requires.wider) (number-below start c.args.a.now v)
     (subst (λ n. s < 2 ^ n) e.size (number-below g c.in_ok-sum.sum.word.items v)) h

@@ -23,11 +23,11 @@ returns-clause-quotient c = λ v.
     let is : second ≡ get_or c.args.b.now (length c.args.b.now - 1) second = subst (λ n. second ≡ get_or c.args.b.now (n - 1) second) (sym same) c.index-b-top.is in
     let hb : HasSign y w b = subst (λ n. HasSign y n b) same (sign-is start c.args.b.now second v (omega (arith, c.requires.some, same)) is) in
     let bb : b < 2 ^ w = subst (λ n. b < 2 ^ n) same (number-below start c.args.b.now v) in
-    let signs : gate_value g2 c.in_ok-signs.signs v ≡ differ x y = e2.value v ∙ (λ j. differ (e1.keeps first wf.below v j) (e1.keeps second ws.below v j)) in
+    let signs : gate_value g2 c.in_ok-signs.signs v ≡ differ x y = e2.value v ∙ (λ j. differ (e1.frame.keeps first wf.below v j) (e1.frame.keeps second ws.below v j)) in
     let size : length c.as_slice.result.now ≡ w = ap length c.as_slice.ensures.value ∙ e1.quotient_size in
     let magnitude : gate_number g2 c.as_slice.result.now v ≡ udiv_value w (negated_by x w a) (negated_by y w b) =
-    ap (λ ls. gate_number g2 ls v) c.as_slice.ensures.value ∙ (e2.keeps_words c.in_ok-divided.divided.quotient.items e1.quotient_within v ∙ e1.quotient v) in
-    c.in_ok-remainder.ensures.keeps_words c.in_ok-quotient.quotient.items e3.within v
+    ap (λ ls. gate_number g2 ls v) c.as_slice.ensures.value ∙ (e2.frame.keeps_words c.in_ok-divided.divided.quotient.items e1.quotient_within v ∙ e1.quotient v) in
+    c.in_ok-remainder.ensures.frame.keeps_words c.in_ok-quotient.quotient.items e3.within v
     ∙ (e3.value v
     ∙ ((λ j. negated_by (signs j) (size j) (magnitude j))
     ∙ signed-quotient x y w a b c.requires.some (number-below start c.args.a.now v) bb (sign-is start c.args.a.now first v c.requires.some c.index-a-top.is) hb))
@@ -47,12 +47,12 @@ returns-clause-remainder c = λ v.
     let hb : HasSign y w b = subst (λ n. HasSign y n b) same (sign-is start c.args.b.now second v (omega (arith, c.requires.some, same)) is) in
     let bb : b < 2 ^ w = subst (λ n. b < 2 ^ n) same (number-below start c.args.b.now v) in
     let sign : gate_value g3 first v ≡ x =
-    e3.keeps first (omega (arith, wf.below, e1.vars, e2.vars)) v ∙ (e2.keeps first (omega (arith, wf.below, e1.vars)) v ∙ e1.keeps first wf.below v) in
+    e3.frame.keeps first (omega (arith, wf.below, e1.frame.vars, e2.frame.vars)) v ∙ (e2.frame.keeps first (omega (arith, wf.below, e1.frame.vars)) v ∙ e1.frame.keeps first wf.below v) in
     let rest : List ℤ = c.in_ok-divided.divided.remainder.items in
     let size : length c.as_slice-2.result.now ≡ w = ap length c.as_slice-2.ensures.value ∙ e1.remainder_size in
     let magnitude : gate_number g3 c.as_slice-2.result.now v ≡ urem_value w (negated_by x w a) (negated_by y w b) =
     ap (λ ls. gate_number g3 ls v) c.as_slice-2.ensures.value
-    ∙ (e3.keeps_words rest (within_more g1.vars g2.vars rest e2.vars e1.remainder_within) v ∙ (e2.keeps_words rest e1.remainder_within v ∙ e1.remainder v)) in
+    ∙ (e3.frame.keeps_words rest (within_more g1.vars g2.vars rest e2.frame.vars e1.remainder_within) v ∙ (e2.frame.keeps_words rest e1.remainder_within v ∙ e1.remainder v)) in
     c.in_ok-remainder.ensures.value v
     ∙ ((λ j. negated_by (sign j) (size j) (magnitude j))
     ∙ signed-remainder x y w a b c.requires.some (number-below start c.args.a.now v) bb (sign-is start c.args.a.now first v c.requires.some c.index-a-top.is) hb)

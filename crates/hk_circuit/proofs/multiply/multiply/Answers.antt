@@ -1,4 +1,4 @@
-use Rattle.std.proofs.Common.{◌≡◌, ◌+◌, ◌*◌, ◌%◌, ◌^◌, not, false, ℕ, Bool, All, length, take, if◌then◌else◌, subst, sym, refl, ◌∙◌, ap, arith}
+use Rattle.std.proofs.Common.{◌≡◌, ◌+◌, ◌*◌, ◌%◌, ◌^◌, not, false, ℕ, Bool, All, length, take, if◌then◌else◌, subst, sym, ◌∙◌, ap, arith}
 use Rattle.std.proofs.lemmas.Grind.{common_steps}
 use Rattle.std.proofs.lemmas.List.Elements.{All-replicate}
 use Rattle.std.proofs.lemmas.Nat.{pow_pos}
@@ -6,8 +6,9 @@ use Rattle.hk_cnf.specs.Literal.{IsWithin}
 use Rattle.hk_cnf.specs.Circuit.{gate_value}
 use Rattle.hk_cnf.proofs.CircuitLaws.{IsWithin-neg}
 use Rattle.hk_circuit.specs.Words.{gate_number}
+use Rattle.hk_circuit.proofs.Frames.{unchanged, followed}
 use Rattle.hk_circuit.proofs.Negated.{value_negated}
-use Rattle.hk_circuit.proofs.WordNumbers.{at, through, within_more, number-next}
+use Rattle.hk_circuit.proofs.WordNumbers.{at, number-next}
 use Rattle.hk_circuit.proofs.WordArithmetic.{number-zeros}
 use Rattle.hk_circuit.proofs.Products.{product-step, zero-product}
 use Rattle.hk_circuit.proofs.multiply.multiply.Goals as goal
@@ -17,11 +18,7 @@ loop-i-init c =
     let start = c.args.gates.now in
     let bottom : IsWithin start.vars c.negated-bottom.result = subst (IsWithin start.vars) (sym c.negated-bottom.ensures.value) (IsWithin-neg start.vars c.args.truth c.requires.truth) in
     record {
-      vars = omega arith;
-      keeps = λ x b v. refl;
-      grows = λ d g. g;
-      inputs = refl;
-      keeps_words = λ ls w v. refl;
+      frame = unchanged start;
       size = grind (arith, common_steps);
       within = subst (λ ls. All (IsWithin start.vars) ls) (sym c.in_ok-sum.ensures) (All-replicate (IsWithin start.vars) _ c.negated-bottom.result bottom);
       value = λ v.
@@ -34,7 +31,7 @@ pub partial_product-requires-clause-bottom_is : goal.partial_product-requires-cl
 partial_product-requires-clause-bottom_is c = λ v.
     let start = c.args.gates.now in
     let bottom : IsWithin start.vars c.negated-bottom.result = subst (IsWithin start.vars) (sym c.negated-bottom.ensures.value) (IsWithin-neg start.vars c.args.truth c.requires.truth) in
-    c.loop-i.invariant.keeps c.negated-bottom.result bottom.below v
+    c.loop-i.invariant.frame.keeps c.negated-bottom.result bottom.below v
     ∙ (ap (λ l. gate_value start l v) c.negated-bottom.ensures.value ∙ (value_negated start c.args.truth v c.requires.truth.literal ∙ ap not (c.requires.truth_is v)))
 
 pub loop-i-preserved : goal.loop-i-preserved
@@ -47,13 +44,7 @@ loop-i-preserved c =
     let wb : IsWithin start.vars b = at start.vars c.args.b.now c.loop-i.i b c.requires.second (omega arith) c.index-b-i.is in
     let size : length c.as_slice.result.now ≡ length c.args.a.now = ap length c.as_slice.ensures.value ∙ i.size in
     record {
-      vars = omega (arith, i.vars, p.vars, e.vars);
-      keeps = through start c.partial_product.new.gates c.add.new.gates (omega (arith, i.vars, p.vars)) (through start c.loop-i.gates c.partial_product.new.gates i.vars i.keeps p.keeps) e.keeps;
-      grows = λ x g. e.grows x (p.grows x (i.grows x g));
-      inputs = e.inputs ∙ (p.inputs ∙ i.inputs);
-      keeps_words = λ ls w v.
-          e.keeps_words ls (within_more start.vars c.partial_product.new.gates.vars ls (omega (arith, i.vars, p.vars)) w) v
-          ∙ (p.keeps_words ls (within_more start.vars c.loop-i.gates.vars ls i.vars w) v ∙ i.keeps_words ls w v);
+      frame = followed (followed i.frame p.frame) e.frame;
       size = e.size ∙ size;
       within = e.within;
       value = λ v.
@@ -62,12 +53,12 @@ loop-i-preserved c =
           let w : ℕ = 2 ^ length c.args.a.now in
           let x : Bool = gate_value c.loop-i.gates b v in
           let sum : gate_number c.partial_product.new.gates c.as_slice.result.now v ≡ (a * low) % w =
-          ap (λ ls. gate_number c.partial_product.new.gates ls v) c.as_slice.ensures.value ∙ (p.keeps_words c.loop-i.sum.items i.within v ∙ i.value v) in
+          ap (λ ls. gate_number c.partial_product.new.gates ls v) c.as_slice.ensures.value ∙ (p.frame.keeps_words c.loop-i.sum.items i.within v ∙ i.value v) in
           let row : gate_number c.partial_product.new.gates c.as_slice-in-loop-i.result.now v ≡ (if x then (a * 2 ^ c.loop-i.i) % w else 0) =
           ap (λ ls. gate_number c.partial_product.new.gates ls v) c.as_slice-in-loop-i.ensures.value
-          ∙ (p.value v ∙ ap (λ n. if x then (n * 2 ^ c.loop-i.i) % w else 0) (i.keeps_words c.args.a.now c.requires.first v)) in
+          ∙ (p.value v ∙ ap (λ n. if x then (n * 2 ^ c.loop-i.i) % w else 0) (i.frame.keeps_words c.args.a.now c.requires.first v)) in
           e.value v
           ∙ ((λ j. (sum j + row j) % 2 ^ size j)
           ∙ (product-step a low w (2 ^ c.loop-i.i) x
-          ∙ ap (λ n. (a * n) % w) (sym (number-next start c.loop-i.gates c.args.b.now c.loop-i.i b v (omega arith) c.index-b-i.is (i.keeps b wb.below v)))));
+          ∙ ap (λ n. (a * n) % w) (sym (number-next start c.loop-i.gates c.args.b.now c.loop-i.i b v (omega arith) c.index-b-i.is (i.frame.keeps b wb.below v)))));
     }

@@ -21,7 +21,7 @@ returns-clause-value c = λ v.
     let moved : gate_number g c.as_slice.result.now v ≡ bvlshr n a low =
     ap (λ ls. gate_number g ls v) c.as_slice.ensures.value ∙ (e.value v ∙ ap (λ ls. bvlshr n a (gate_number start ls v)) c.split_at.ensures.front) in
     let above : gate_number g (drop k c.args.amount.now) v ≡ high =
-    e.keeps_words (drop k c.args.amount.now) (All-drop (IsWithin start.vars) k c.args.amount.now c.requires.second) v in
+    e.frame.keeps_words (drop k c.args.amount.now) (All-drop (IsWithin start.vars) k c.args.amount.now c.requires.second) v in
     c.in_ok-word-2.ensures.value v
     ∙ ((λ j. if nat_eq (gate_number g (c.split_at.ensures.back j) v) 0 then moved j else 0)
     ∙ (ap (λ m. if nat_eq m 0 then bvlshr n a low else 0) above

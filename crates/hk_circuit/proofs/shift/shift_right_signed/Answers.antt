@@ -17,12 +17,12 @@ returns-clause-value c = λ v.
     let n : ℕ = gate_number start c.args.amount.now v in
     let x : Bool = gate_value start s v in
     let ws : IsWithin start.vars s = at start.vars c.args.a.now (w - 1) s c.requires.first (omega (arith, c.requires.some)) c.index-a-top.is in
-    let x1 : gate_value g1 s v ≡ x = e1.keeps s ws.below v in
-    let x2 : gate_value g2 s v ≡ x = e2.keeps s (omega (arith, ws.below, e1.vars)) v ∙ x1 in
-    let x3 : gate_value g3 s v ≡ x = e3.keeps s (omega (arith, ws.below, e1.vars, e2.vars)) v ∙ x2 in
-    let a1 : gate_number g1 c.args.a.now v ≡ a = e1.keeps_words c.args.a.now c.requires.first v in
+    let x1 : gate_value g1 s v ≡ x = e1.frame.keeps s ws.below v in
+    let x2 : gate_value g2 s v ≡ x = e2.frame.keeps s (omega (arith, ws.below, e1.frame.vars)) v ∙ x1 in
+    let x3 : gate_value g3 s v ≡ x = e3.frame.keeps s (omega (arith, ws.below, e1.frame.vars, e2.frame.vars)) v ∙ x2 in
+    let a1 : gate_number g1 c.args.a.now v ≡ a = e1.frame.keeps_words c.args.a.now c.requires.first v in
     let n2 : gate_number g2 c.args.amount.now v ≡ n =
-    e2.keeps_words c.args.amount.now (within_more start.vars g1.vars c.args.amount.now e1.vars c.requires.second) v ∙ e1.keeps_words c.args.amount.now c.requires.second v in
+    e2.frame.keeps_words c.args.amount.now (within_more start.vars g1.vars c.args.amount.now e1.frame.vars c.requires.second) v ∙ e1.frame.keeps_words c.args.amount.now c.requires.second v in
     let turned : gate_number g2 c.as_slice.result.now v ≡ turned_by x w a =
     ap (λ ls. gate_number g2 ls v) c.as_slice.ensures.value ∙ (e2.value v ∙ (λ j. turned_by (x1 j) w (a1 j))) in
     let moved : gate_number g3 c.as_slice-2.result.now v ≡ turned_by x w a / 2 ^ n =

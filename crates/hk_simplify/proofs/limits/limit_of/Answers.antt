@@ -2,7 +2,7 @@ use Rattle.std.proofs.Common.{◌≡◌, ◌+◌, ◌-◌, ◌/◌, ◌^◌, ◌
 use Rattle.std.proofs.lemmas.Nat.{pow_pos}
 use Rattle.hk_num.proofs.Readings.{halves}
 use Rattle.hk_simplify.proofs.LimitLaws.{limit_law, half_is}
-use Rattle.hk_simplify.proofs.against.limit_of.Goals as goal
+use Rattle.hk_simplify.proofs.limits.limit_of.Goals as goal
 
 pub overflow_sub-above : goal.overflow_sub-above
 overflow_sub-above c = omega (arith, c.greatest-2.ensures, c.greatest-3.ensures, pow_mono {i = c.args.u} {j = c.args.w} c.requires.wider)
