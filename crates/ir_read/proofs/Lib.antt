@@ -6,3 +6,10 @@ pub mod Closing
 pub mod Kept
 pub mod Walk
 pub mod One
+pub mod Noted
+pub mod Shaped
+pub mod LineOrder
+pub mod Lined
+pub mod Printed
+pub mod Foreseen
+pub mod OnlyPrinted

@@ -6,3 +6,5 @@ pub mod Spelling
 pub mod View
 pub mod Answers
 pub mod Laws
+pub mod LineOrder
+pub mod Printing

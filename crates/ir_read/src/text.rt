@@ -7,9 +7,11 @@ ghost use Rattle.ir_ast.specs.Small.{IsSmall};
 ghost use Rattle.ir_ast.specs.declared.fault.KernelReason.{KernelReason};
 ghost use Rattle.ir_lex.specs.Cut.{cuts_of};
 ghost use Rattle.ir_read.specs.State.{at_start};
+ghost use Rattle.ir_read.specs.Printing.{IsPrintedText};
 ghost use Rattle.ir_read.specs.Spelling.{SpellsFrom, IsModuleText, IsStop, IsModule, IsFault, IsFaultyText};
 ghost use Rattle.ir_read.specs.View.{view_whole, stop_at};
 ghost use Rattle.ir_read.specs.Answers.{IsItemStop};
+ghost use Rattle.ir_type.specs.Shape.{IsShaped, IsLined};
 
 use crate::body::Body;
 use crate::item::pass;
@@ -27,8 +29,12 @@ pub fn read_module(alloc: Global, text: &[u8]) -> Result<Module, KernelStop>
     requires { length text.now < 2 ^ 31 }
     ensures found { IfOk result (λ m. IsModuleText text.now (view_module m)) }
     ensures small { IfOk result IsSmall }
+    ensures shaped { IfOk result (λ m. IsShaped (view_module m)) }
+    ensures lined { IfOk result (λ m. IsLined (view_module m)) }
+    ensures printed { IfOk result (λ m. IsPrintedText text.now (view_module m)) }
     ensures fault { IfErr result (IsStop text.now) }
     ensures only { (m : ModuleView) → IsModuleText text.now m → IsModule result m }
+    ensures only_printed { (m : ModuleView) → IsPrintedText text.now m → IsModule result m }
     ensures only_fault { (line : ℕ) → (reason : KernelReason) → IsFaultyText text.now line reason → IsFault result line reason }
 {
     read_text(alloc, text)
