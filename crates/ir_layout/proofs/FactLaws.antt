@@ -75,7 +75,7 @@ mutual
   align_some (named x) = omega arith
   align_some opaque = omega arith
 
-  greatest_some : (ts : Tys) → 0 < greatest_align ts
+  pub greatest_some : (ts : Tys) → 0 < greatest_align ts
   greatest_some no_types = omega arith
   greatest_some (type_and t ts) = let a = align_some t in omega (arith, a)
 
@@ -114,7 +114,7 @@ module _ (types : Types) (look : List ℕ → Fact) where
   meant_some : (t : Ty) (u : Ty) → whole types t ≡ Some u → meant types t ≡ u
   meant_some t u e = ap (λ o. unwrap_or o opaque) e
 
-  none_size : (t : Ty) → is_some (whole types t) ≡ false → size_or_none types t ≡ 0
+  pub none_size : (t : Ty) → is_some (whole types t) ≡ false → size_or_none types t ≡ 0
   none_size t e = pick (whole types t) refl e
     where
       pick : (o : Option Ty) → whole types t ≡ o → is_some o ≡ false → size_or_none types t ≡ 0

@@ -34,7 +34,7 @@ module _ (types : Types) where
     large = refl;
   }
 
-  unknown_stands : (d : ℕ) (x : List ℕ) → entry_of x types ≡ None → stands_for d types x ≡ None
+  pub unknown_stands : (d : ℕ) (x : List ℕ) → entry_of x types ≡ None → stands_for d types x ≡ None
   unknown_stands zero x e = refl
   unknown_stands (suc d) x e = ap (whole_entry (whole_by (stands_for d types))) e
 

@@ -1,3 +1,17 @@
+pub mod SizeLaws
+pub mod Laid
+pub mod InitialLaws
+pub mod Endian
+pub mod OffsetLaws
+pub mod Roots
+pub mod Growing
+pub mod Verdicts
+pub mod Offers
+pub mod Components
+pub mod Anyhow
+pub mod Noted
+pub mod Viewed
+pub mod Turns
 pub mod ByteSteps
 pub mod Seen
 pub mod Cuts

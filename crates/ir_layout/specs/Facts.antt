@@ -5,7 +5,8 @@ use Rattle.ir_ast.specs.Plain.{Ty, Tys, nothing, integer, pointer, array, struct
 use Rattle.ir_ast.specs.Table.{names_of, place_of}
 use Rattle.ir_type.specs.Names.{names_in, parts_of}
 use Rattle.ir_type.specs.Whole.{Types, whole, meant, is_memory_width, has_odd}
-use Rattle.ir_type.specs.Cycles.{IsBadName, is_opaque, name_at}
+use Rattle.ir_type.specs.Cycles.{IsBadName, is_opaque, name_at, graph_of, SaysCyclic}
+use Rattle.hk_graph.specs.Sorted.{IsOrder, flag_of}
 use Rattle.ir_layout.specs.Sizes.{up_to, size_of, align_of}
 use Rattle.ir_layout.specs.declared.fact.Fact.{Fact}
 
@@ -120,6 +121,13 @@ abbrev pub node_fact : Bool → Ty → Fact → Fact
 node_fact true over f = unknown_fact
 node_fact false over f = named_fact (is_opaque over) f
 
+-- the size and the alignment of what stands for a type; `opaque` has the size 0 and the alignment 1
+abbrev pub known_size : Fact → ℕ
+known_size f = if f.known then f.size else 0
+
+abbrev pub known_align : Fact → ℕ
+known_align f = if f.known then f.align else 1
+
 -- what is kept is in bounds
 pub record IsKept (f : Fact) : Type 0 where
   pub some : 0 < f.align
@@ -162,6 +170,11 @@ pub record FactFits (types : Types) (t : Ty) (f : Fact) : Type 0 where
   pub bad : f.bad ≡ true → HasBadName types (names_in t)
   pub good : HasBadName types (names_in t) → f.bad ≡ true
   pub large : f.large ≡ is_large_within types t
+
+-- an order of the named types, by their places: those that a type spells stand before it, unless it contains itself, which the flags tell
+pub record IsTypeOrder (types : Types) (nodes : List ℕ) (cyclic : List Bool) : Type 0 where
+  pub order : IsOrder (graph_of types) nodes cyclic
+  pub says : (p : ℕ) → p < length types → SaysCyclic types (flag_of cyclic p) p
 
 -- the facts of all named types, by their places
 pub record AreFacts (types : Types) (facts : List Fact) : Type 0 where

@@ -2,3 +2,13 @@ pub mod Bytes
 pub mod Sizes
 pub mod Facts
 pub mod Rules
+pub mod Initial
+pub mod InitFits
+pub mod Noting
+pub mod Texts
+pub mod Least
+pub mod Writing
+pub mod Offsets
+pub mod Layouts
+pub mod Answers
+pub mod Laws

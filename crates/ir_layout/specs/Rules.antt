@@ -28,14 +28,14 @@ FallsK6 m item = IsOverAll m.types item ⊎ ((t : Ty) × Contains (flat_map part
 
 -- ---- K7
 
+abbrev pub onto : ℕ → List (List ℕ) → List (List ℕ)
+onto b [] = (b ∷ []) ∷ []
+onto b (c ∷ cs) = (b ∷ c) ∷ cs
+
 -- what stands between the `-` of a layout text
 abbrev pub components : List ℕ → List (List ℕ)
 components [] = [] ∷ []
 components (b ∷ bs) = if b == 45 then [] ∷ components bs else onto b (components bs)
-  where
-    onto : ℕ → List (List ℕ) → List (List ℕ)
-    onto b [] = (b ∷ []) ∷ []
-    onto b (c ∷ cs) = (b ∷ c) ∷ cs
 
 abbrev pub Begins : List ℕ → List ℕ → Type 0
 Begins front c = (rest : List ℕ) × (c ≡ front ++ rest)

@@ -65,12 +65,12 @@ abbrev pub written_or : ℕ → Ty → ℕ
 written_or zero t = align_of t
 written_or (suc n) t = suc n
 
+abbrev pub align_if : Option ℕ → Ty → ℕ
+align_if None t = align_of t
+align_if (Some n) t = written_or n t
+
 abbrev pub object_align : Types → GlobalView → ℕ
 object_align types g = align_if g.align (meant types g.over)
-  where
-    align_if : Option ℕ → Ty → ℕ
-    align_if None t = align_of t
-    align_if (Some n) t = written_or n t
 
 abbrev pub object_size : Types → GlobalView → ℕ
 object_size types g = size_of (meant types g.over)

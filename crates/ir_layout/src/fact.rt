@@ -2,7 +2,7 @@
 
 ghost use Rattle.std.specs.Prelude.{◌≡◌, ◌<◌, ◌≤◌, ◌^◌, ◌+◌, ◌*◌, ◌/◌};
 ghost use Rattle.ir_layout.specs.Sizes.{up_to};
-ghost use Rattle.ir_layout.specs.Facts.{cut, is_over, scalar_fact, opaque_fact, unknown_fact, array_fact, no_fields, with_field, with_packed, struct_fact, packed_fact, named_fact, IsKept};
+ghost use Rattle.ir_layout.specs.Facts.{cut, is_over, scalar_fact, opaque_fact, unknown_fact, array_fact, no_fields, with_field, with_packed, struct_fact, packed_fact, named_fact, known_size, known_align, IsKept};
 
 /// The limit of a type, in bytes.
 const LIMIT: u64 = 4_294_967_296;
@@ -170,6 +170,20 @@ impl Fact {
             large: self.large || is_over_limit(self.known, self.odd, self.size),
             ..self
         }
+    }
+
+    /// The size in bytes; 0 of what stands for no type.
+    pub fn known_size(self) -> u64
+        ensures { result ≡ known_size self }
+    {
+        if self.known { self.size } else { 0 }
+    }
+
+    /// The alignment in bytes; 1 of what stands for no type.
+    pub fn known_align(self) -> u64
+        ensures { result ≡ known_align self }
+    {
+        if self.known { self.align } else { 1 }
     }
 
     /// What is kept of a named type, which may be bad.

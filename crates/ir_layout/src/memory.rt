@@ -28,6 +28,13 @@ impl ObjectBytes {
         ObjectBytes { items }
     }
 
+    /// The bytes.
+    fn as_slice(&self) -> &[u8]
+        ensures { result.now ≡ self.now }
+    {
+        self.items.as_slice()
+    }
+
     /// A second object with the same bytes.
     pub fn copy(&self, alloc: Global) -> Result<ObjectBytes, AllocError>
         ensures { IfOk result (λ b. b ≡ self.now) }
@@ -112,6 +119,21 @@ impl KMemory {
             objects.push(object.copy(alloc)?)?;
         }
         Ok(KMemory { objects })
+    }
+
+    /// How many objects there are. It takes no memory.
+    pub fn objects(&self) -> usize
+        ensures { result ≡ length self.now }
+    {
+        self.objects.len()
+    }
+
+    /// The bytes of an object. It takes no memory.
+    pub fn bytes(&self, object: u32) -> &[u8]
+        requires { object < length self.now }
+        ensures { result.now ≡ object_of self.now object }
+    {
+        self.objects[object as usize].as_slice()
     }
 
     /// The number in the bytes of an object from an offset on. It takes no memory.

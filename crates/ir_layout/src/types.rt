@@ -7,16 +7,15 @@ ghost use Rattle.ir_ast.specs.Program.{TypeView};
 ghost use Rattle.ir_ast.specs.ProgramView.{view_entries, view_type_entry};
 ghost use Rattle.hk_graph.specs.Sorted.{flag_of};
 ghost use Rattle.ir_type.specs.Cycles as definition;
-ghost use Rattle.ir_layout.specs.Facts.{look_in, integer_fact, fact_by, fields_by, packed_by, no_fields, node_fact, IsKept, AreFacts, FactFits};
+ghost use Rattle.ir_layout.specs.Facts.{look_in, integer_fact, fact_by, fields_by, packed_by, no_fields, node_fact, IsKept, IsTypeOrder, AreFacts};
 
 use crate::fact::Fact;
 use hk_graph::Order;
-use ir_ast::{IrType, Name, TypeList, TypeTable};
-use ir_type::type_order;
+use ir_ast::{IrType, Name, Table, TypeList, TypeTable};
 use std::alloc::{AllocError, Global};
 
 /// What is kept of a name.
-fn look(types: &TypeTable, facts: &[Fact], name: &Name) -> Fact
+fn look<E: Drop>(types: &Table<E>, facts: &[Fact], name: &Name) -> Fact
     requires small { length types.now < 2 ^ 32 }
     requires kept { All IsKept facts.now }
     ensures fact { result ≡ look_in types.now facts.now name.now }
@@ -47,7 +46,7 @@ fn integer(width: u32) -> Fact
 
 /// What is kept of a type, where this is kept of the named types.
 #[cycle(facts)]
-pub fn fact_in(types: &TypeTable, facts: &[Fact], over: &IrType) -> Fact
+pub fn fact_in<E: Drop>(types: &Table<E>, facts: &[Fact], over: &IrType) -> Fact
     requires small { length types.now < 2 ^ 32 }
     requires kept { All IsKept facts.now }
     ensures fact { result ≡ fact_by (look_in types.now facts.now) (view_type over.now) }
@@ -67,7 +66,7 @@ pub fn fact_in(types: &TypeTable, facts: &[Fact], over: &IrType) -> Fact
 
 /// What is kept of the fields of a struct.
 #[cycle(facts)]
-fn fields_in(types: &TypeTable, facts: &[Fact], parts: &TypeList) -> Fact
+fn fields_in<E: Drop>(types: &Table<E>, facts: &[Fact], parts: &TypeList) -> Fact
     requires small { length types.now < 2 ^ 32 }
     requires kept { All IsKept facts.now }
     ensures fact { result ≡ fields_by (look_in types.now facts.now) no_fields (view_type_list parts.now) }
@@ -83,7 +82,7 @@ fn fields_in(types: &TypeTable, facts: &[Fact], parts: &TypeList) -> Fact
 
 /// What is kept of the fields of a packed struct.
 #[cycle(facts)]
-fn packed_in(types: &TypeTable, facts: &[Fact], parts: &TypeList) -> Fact
+fn packed_in<E: Drop>(types: &Table<E>, facts: &[Fact], parts: &TypeList) -> Fact
     requires small { length types.now < 2 ^ 32 }
     requires kept { All IsKept facts.now }
     ensures fact { result ≡ packed_by (look_in types.now facts.now) no_fields (view_type_list parts.now) }
@@ -128,24 +127,15 @@ fn fact_at(types: &TypeTable, facts: &[Fact], place: u32, cyclic: bool) -> Fact
 }
 
 /// What is kept of the named types, by their places. It takes time linear in the types.
-pub fn facts_of(alloc: Global, types: &TypeTable) -> Result<Vec<Fact>, AllocError>
-    requires { length types.now < 2 ^ 32 }
+pub fn facts_of(alloc: Global, types: &TypeTable, order: &Order) -> Result<Vec<Fact>, AllocError>
+    requires small { length types.now < 2 ^ 32 }
+    requires order { IsTypeOrder (view_entries view_type_entry types.now) order.now.nodes.items order.now.cyclic.items }
     ensures { IfOk result (λ facts. AreFacts (view_entries view_type_entry types.now) facts.items) }
 {
     let count = types.len();
-    let order = type_order(alloc, types)?;
     let mut facts = vec![in alloc; Fact::of_unknown(); count as usize]?;
     for node in &order.nodes {
-        facts[*node as usize] = fact_at(types, &facts, *node, is_cyclic(&order, *node));
+        facts[*node as usize] = fact_at(types, &facts, *node, is_cyclic(order, *node));
     }
     Ok(facts)
-}
-
-/// What is kept of a type: its size and alignment, and which rules it falls under.
-pub fn fact_of(types: &TypeTable, facts: &[Fact], over: &IrType) -> Fact
-    requires small { length types.now < 2 ^ 32 }
-    requires facts { AreFacts (view_entries view_type_entry types.now) facts.now }
-    ensures { FactFits (view_entries view_type_entry types.now) (view_type over.now) result }
-{
-    fact_in(types, facts, over)
 }

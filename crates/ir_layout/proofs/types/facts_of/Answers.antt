@@ -1,4 +1,4 @@
-use Rattle.std.proofs.Common.{rules, ◌≡◌, ◌<◌, length, ap, sym, subst, ◌∙◌, arith}
+use Rattle.std.proofs.Common.{rules, ◌≡◌, length, ap, sym, subst, ◌∙◌, arith}
 use Rattle.std.specs.Prelude.{replicate, bytes_eq, slice_index}
 use Rattle.std.specs.List.{IsDistinct}
 use Rattle.std.proofs.lemmas.List.{length-map}
@@ -23,15 +23,15 @@ pub loop-node-preserved : goal.loop-node-preserved
 loop-node-preserved c =
     fill (view_entries view_type_entry c.args.types.now)
     (subst (IsDistinct bytes_eq) (sym (names_viewed view_type_entry c.args.types.now)) c.len-count.ensures.distinct)
-    c.deref-node-items.result.now c.in_ok-order.order.cyclic.items
-    (subst (λ ns. IsOrder (graph_of (view_entries view_type_entry c.args.types.now)) ns c.in_ok-order.order.cyclic.items) (sym c.deref-node-items.ensures.value) c.in_ok-order.ensures.order)
-    (λ p l. c.in_ok-order.ensures.cyclic p (subst (λ n. p < n) (length-map c.args.types.now (λ e. (e.0, view_type_entry e.1))) l))
+    c.deref-node-items.result.now c.args.order.now.cyclic.items
+    (subst (λ ns. IsOrder (graph_of (view_entries view_type_entry c.args.types.now)) ns c.args.order.now.cyclic.items) (sym c.deref-node-items.ensures.value) c.requires.order.order)
+    c.requires.order.says
     c.loop-node.node-index c.loop-node.facts.items (look_in c.args.types.now c.loop-node.facts.items) c.fact_at.result c.loop-node.invariant c.loop-node-test.true
     (λ x. ap (fact_at c.loop-node.facts.items) (sym (place_viewed view_type_entry c.args.types.now x)))
     c.fact_at.ensures.kept
     (λ e x there. c.fact_at.ensures.fact e x there
     ∙ ap (λ b. node_fact b e.over (fact_by (look_in c.args.types.now c.deref.result.now) e.over)) c.is_cyclic.ensures
-    ∙ ap (λ fs. node_fact (flag_of c.in_ok-order.order.cyclic.items (slice_index c.deref-node-items.result.now c.loop-node.node-index)) e.over (fact_by (look_in c.args.types.now fs) e.over))
+    ∙ ap (λ fs. node_fact (flag_of c.args.order.now.cyclic.items (slice_index c.deref-node-items.result.now c.loop-node.node-index)) e.over (fact_by (look_in c.args.types.now fs) e.over))
     c.deref.ensures.value)
 
 pub returns : goal.returns
@@ -39,8 +39,8 @@ returns c =
     let end : c.loop-node.node-index ≡ length c.deref-node-items.result.now = omega (arith, c.loop-node-test.false, c.loop-node.auto.node-index-end) in
     filled (view_entries view_type_entry c.args.types.now)
     (subst (IsDistinct bytes_eq) (sym (names_viewed view_type_entry c.args.types.now)) c.len-count.ensures.distinct)
-    c.deref-node-items.result.now c.in_ok-order.order.cyclic.items
-    (subst (λ ns. IsOrder (graph_of (view_entries view_type_entry c.args.types.now)) ns c.in_ok-order.order.cyclic.items) (sym c.deref-node-items.ensures.value) c.in_ok-order.ensures.order)
-    (λ p l. c.in_ok-order.ensures.cyclic p (subst (λ n. p < n) (length-map c.args.types.now (λ e. (e.0, view_type_entry e.1))) l))
+    c.deref-node-items.result.now c.args.order.now.cyclic.items
+    (subst (λ ns. IsOrder (graph_of (view_entries view_type_entry c.args.types.now)) ns c.args.order.now.cyclic.items) (sym c.deref-node-items.ensures.value) c.requires.order.order)
+    c.requires.order.says
     c.loop-node.facts.items
     (subst (λ k. IsFilled (view_entries view_type_entry c.args.types.now) c.deref-node-items.result.now k c.loop-node.facts.items) end c.loop-node.invariant)

@@ -1,0 +1,10 @@
+pub mod WalkLaws
+pub mod OrderLaws
+pub mod ChainLaws
+pub mod Framing
+pub mod Settling
+pub mod Spreading
+pub mod Passing
+pub mod Visiting
+pub mod TotalLaws
+pub mod SumLaws
