@@ -1,0 +1,10 @@
+pub mod Paths
+pub mod Arms
+pub mod Graphs
+pub mod Sites
+pub mod Used
+pub mod Rules
+pub mod Least
+pub mod Checked
+pub mod Tallies
+pub mod ItemFaults

@@ -1,0 +1,15 @@
+pub mod FirstPlaces
+pub mod Widths
+pub mod KindSteps
+pub mod Keeping
+pub mod Entered
+pub mod Knowing
+pub mod Powers
+pub mod Typing
+pub mod Widen
+pub mod Twice
+pub mod OperandLists
+pub mod Agreeing
+pub mod RangeLengths
+pub mod PairKinds
+pub mod Rows

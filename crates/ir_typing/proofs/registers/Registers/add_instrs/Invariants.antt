@@ -1,0 +1,12 @@
+use Rattle.std.proofs.Common.{take}
+use Rattle.ir_ast.specs.ProgramView.{view_entries, view_type_entry}
+use Rattle.ir_whole.specs.Numbers.{types_of, IsFor}
+use Rattle.ir_typing.specs.Kept.{of_instrs}
+use Rattle.ir_typing.specs.Adding.{Adds}
+use Rattle.ir_typing.proofs.registers.Registers.add_instrs.Given as goal
+
+abbrev pub invariant-each : goal.invariant-each
+invariant-each l = record {
+  own : IsFor (view_entries view_type_entry l.types) l.numbers;
+  adds : Adds (view_entries view_type_entry l.types) (types_of l.initial.numbers) (types_of l.numbers) (of_instrs (take l.instr-index l.instrs)) l.initial.self l.self;
+}

@@ -1,0 +1,15 @@
+pub mod Intrinsics
+pub mod Listed
+pub mod Registers
+pub mod Known
+pub mod Fits
+pub mod Access
+pub mod Places
+pub mod Kinds
+pub mod Kept
+pub mod Adding
+pub mod Scoped
+pub mod Knows
+pub mod Steps
+pub mod Twice
+pub mod Pairs
