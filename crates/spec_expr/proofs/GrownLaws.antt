@@ -7,7 +7,7 @@ use Rattle.spec_ast.specs.Depth.{depth}
 use Rattle.spec_expr.specs.Grown.{built, too_deep, bounded, lift, join, limited}
 use Rattle.spec_expr.specs.Reading.{both_deeper, grown_choice}
 
-over : {A : Type 0} (most : ℕ) (a : A) (d : ℕ) → most < d → too_deep ≡ bounded most a d
+pub over : {A : Type 0} (most : ℕ) (a : A) (d : ℕ) → most < d → too_deep ≡ bounded most a d
 over most a d h = rw (lt-leb d most h) refl
 
 lift_by : {A B : Type 0} (most : ℕ) (f : A → B) (deeper : ℕ → ℕ) (a : A) (m : ℕ) (p : Bool) → nat_le m most ≡ p → m ≤ deeper m →

@@ -7,3 +7,7 @@ pub mod Complete
 pub mod LevelComplete
 pub mod OneTree
 pub mod Digits
+pub mod Steps
+pub mod Operands
+pub mod Lists
+pub mod Paths

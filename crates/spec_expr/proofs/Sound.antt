@@ -148,8 +148,8 @@ number_comma_sound ts n rest h =
     record { text = f.text; value = f.value ∙ ap Some s.value; parts = f.parts ∙ ap (λ r. f.text ∷ r) (p.parts ∙ ap (λ r. codes "," ∷ r) s.rest) }
 
 pub record FoundName (ts : List Text) (x : Text) (rest : List Text) : Type 0 where
-  name : is_name x ≡ true
-  parts : ts ≡ x ∷ rest
+  pub name : is_name x ≡ true
+  pub parts : ts ≡ x ∷ rest
 
 name_by : (t : Text) (ts : List Text) (x : Text) (rest : List Text) (b : Bool) → is_name t ≡ b → ◌≡◌ {A = Option (Text × List Text)} (if b then Some (t, ts) else None) (Some (x, rest)) → FoundName (t ∷ ts) x rest
 name_by t ts x rest true e h = let s = same t x ts rest h in record { name = subst (λ w. is_name w ≡ true) s.value e; parts = ap (λ w. w ∷ ts) s.value ∙ ap (λ r. x ∷ r) s.rest }

@@ -3,3 +3,9 @@ pub mod Spelling
 pub mod Grown
 pub mod Reading
 pub mod Laws
+pub mod Fronts
+pub mod Many
+pub mod Operators
+pub mod Calls
+pub mod PathSteps
+pub mod Pairs

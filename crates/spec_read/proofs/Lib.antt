@@ -1,2 +1,5 @@
 pub mod ItemComplete
 pub mod TextLaws
+pub mod SortSteps
+pub mod SortSound
+pub mod TopSound

@@ -3,3 +3,4 @@ pub mod Items
 pub mod ItemReading
 pub mod Texts
 pub mod Laws
+pub mod Sorts
