@@ -1,0 +1,60 @@
+//! Comparisons of numbers.
+
+ghost use Rattle.std.specs.Prelude.{◌≡◌, ◌≤◌, ◌<◌, ◌^◌, true};
+ghost use Rattle.ir_value.specs.Numbers as definition;
+
+use crate::numbers::{is_width, takes, truth};
+use crate::value::{Made, Value};
+use hk_num::{slt, ult};
+use ir_ast::Predicate;
+
+/// Whether a comparison holds of two numbers of a width.
+pub(crate) fn holds(predicate: Predicate, w: u32, a: u64, b: u64) -> bool
+    requires width { 1 ≤ w }
+    requires within { w ≤ 64 }
+    requires first { a < 2 ^ w }
+    requires second { b < 2 ^ w }
+    ensures { result ≡ definition.holds predicate w a b }
+{
+    match predicate {
+        Predicate::Eq => a == b,
+        Predicate::Ne => a != b,
+        Predicate::Ugt => ult(w, b, a),
+        Predicate::Uge => !ult(w, a, b),
+        Predicate::Ult => ult(w, a, b),
+        Predicate::Ule => !ult(w, b, a),
+        Predicate::Sgt => slt(w, b, a),
+        Predicate::Sge => !slt(w, a, b),
+        Predicate::Slt => slt(w, a, b),
+        Predicate::Sle => !slt(w, b, a),
+    }
+}
+
+fn compare_of(predicate: Predicate, w: u32, a: Value, b: Value) -> Made
+    requires width { 1 ≤ w }
+    requires within { w ≤ 64 }
+    requires first { definition.takes w a ≡ true }
+    requires second { definition.takes w b ≡ true }
+    ensures { result ≡ definition.compare_of predicate w a b }
+{
+    match (a, b) {
+        (Value::Number(a), Value::Number(b)) => {
+            Made::Gives(Value::Number(truth(holds(predicate, w, a, b))))
+        }
+        (Value::Number(_), Value::Poison) => Made::Gives(Value::Poison),
+        (Value::Poison, Value::Number(_)) => Made::Gives(Value::Poison),
+        (Value::Poison, Value::Poison) => Made::Gives(Value::Poison),
+        _ => Made::Lost,
+    }
+}
+
+/// Compares two numbers of a width. It gives a number of width 1.
+pub fn compare_numbers(predicate: Predicate, w: u32, a: Value, b: Value) -> Made
+    ensures { result ≡ definition.compare_numbers predicate w a b }
+{
+    if is_width(w) && takes(w, a) && takes(w, b) {
+        compare_of(predicate, w, a, b)
+    } else {
+        Made::Lost
+    }
+}
