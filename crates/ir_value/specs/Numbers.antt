@@ -164,6 +164,12 @@ abbrev pub convert : Bool → ConvertKind → ℕ → ℕ → Value → Made
 convert nneg kind from to a =
     if (is_width from && is_width to) && (is_narrower kind from to && takes from a) then convert_of nneg kind from to a else Lost
 
+-- ---- ranges
+
+-- from the low number up to but not including the high one, modulo 2 to the power of the width
+abbrev pub is_between : ℕ → ℕ → ℕ → ℕ → Bool
+is_between w low high n = is_width w && (is_number w low && is_number w high && is_number w n) && nat_lt (bvsub w n low) (bvsub w high low)
+
 -- ---- `freeze` and `select`
 
 abbrev pub freeze : Value → Made

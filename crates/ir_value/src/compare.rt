@@ -3,9 +3,9 @@
 ghost use Rattle.std.specs.Prelude.{◌≡◌, ◌≤◌, ◌<◌, ◌^◌, true};
 ghost use Rattle.ir_value.specs.Numbers as definition;
 
-use crate::numbers::{is_width, takes, truth};
+use crate::numbers::{is_number, is_width, takes, truth};
 use crate::value::{Made, Value};
-use hk_num::{slt, ult};
+use hk_num::{slt, sub, ult};
 use ir_ast::Predicate;
 
 /// Whether a comparison holds of two numbers of a width.
@@ -57,4 +57,16 @@ pub fn compare_numbers(predicate: Predicate, w: u32, a: Value, b: Value) -> Made
     } else {
         Made::Lost
     }
+}
+
+/// Whether a number of a width lies from a low one up to but not including a high one, modulo 2 to the power of the width. No number
+/// lies between equal ones.
+pub fn is_between(w: u32, low: u64, high: u64, n: u64) -> bool
+    ensures { result ≡ definition.is_between w low high n }
+{
+    is_width(w)
+        && is_number(w, low)
+        && is_number(w, high)
+        && is_number(w, n)
+        && sub(w, n, low) < sub(w, high, low)
 }

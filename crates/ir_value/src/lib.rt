@@ -15,10 +15,10 @@ mod widths;
 
 pub use access::{Access, reach};
 pub use addresses::compare_pointers;
-pub use compare::compare_numbers;
+pub use compare::{compare_numbers, is_between};
 pub use intrinsics::{OverflowKind, PairKind, assumes, pair, with_overflow};
 pub use moves::{begin, step};
-pub use numbers::binary;
+pub use numbers::{binary, is_number_of};
 pub use value::{Made, StuckReason, Value};
 pub use widths::{convert, freeze, select};
 

@@ -1,6 +1,6 @@
 //! Operations on two numbers.
 
-ghost use Rattle.std.specs.Prelude.{◌≡◌, ◌≤◌, ◌<◌, ◌^◌, ◌-◌, ◌%◌, true};
+ghost use Rattle.std.specs.Prelude.{◌≡◌, ◌≤◌, ◌<◌, ◌^◌, ◌-◌, ◌%◌, ◌&&◌, true};
 ghost use Rattle.ir_value.specs.Numbers as definition;
 
 use crate::value::{Made, StuckReason, Value};
@@ -301,4 +301,11 @@ pub fn binary(flags: Flags, kind: BinaryKind, w: u32, a: Value, b: Value) -> Mad
     } else {
         Made::Lost
     }
+}
+
+/// Whether a number is one of a width from 1 to 64.
+pub fn is_number_of(w: u32, n: u64) -> bool
+    ensures { result ≡ (definition.is_width w && definition.is_number w n) }
+{
+    is_width(w) && is_number(w, n)
 }
