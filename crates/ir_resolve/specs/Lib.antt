@@ -1,0 +1,3 @@
+pub mod Operands
+pub mod Acts
+pub mod Resolved
