@@ -1,4 +1,7 @@
-//! The step machine.
+//! The step machine: what a kernel does.
+//!
+//! Stands on values, on code and on byte memory. A configuration comes in; the next one goes out, or how the run ends. Its definitions
+//! are what a reader has to believe of instructions; what code is of a module is the layer beside it.
 #![tactic(auto)]
 
 mod calls;
@@ -13,3 +16,6 @@ mod stores;
 pub use frames::Frames;
 pub use state::{Computed, End, Frame, Head, Held, Machine, Next, Target, Written};
 pub use steps::{run, step};
+
+#[cfg(test)]
+mod tests;
