@@ -1,9 +1,8 @@
 -- The step machine: what each instruction does to a configuration, and what a run comes to.
-use Rattle.std.specs.Prelude.{ℕ, zero, suc, ◌+◌, ◌-◌, ◌*◌, ◌≡◌, ◌^◌, ◌<◌, ◌≤◌, Bool, true, false, not, ◌&&◌, ◌==◌, if◌then◌else◌, nat_lt, nat_eq, Option, Some, None, option_map, List, [], ◌∷◌, ◌++◌, map, length, slice_get, slice_set, slice_index_or}
+use Rattle.std.specs.Prelude.{ℕ, zero, suc, ◌+◌, ◌-◌, ◌*◌, ◌≡◌, ◌^◌, ◌<◌, ◌≤◌, true, ◌&&◌, ◌==◌, if◌then◌else◌, Option, Some, None, List, [], ◌∷◌, ◌++◌, map, length, slice_get, slice_set}
 use Rattle.ir_layout.specs.Bytes.{object_of, with_number}
 use Rattle.ir_value.specs.declared.value.Value.{Value}
 use Rattle.ir_value.specs.declared.value.Value.TheVariants.{Number, Poison}
-use Rattle.ir_value.specs.declared.value.StuckReason.{StuckReason}
 use Rattle.ir_value.specs.declared.value.StuckReason.TheVariants as u
 use Rattle.ir_value.specs.declared.access.Access.{Access}
 use Rattle.ir_value.specs.declared.access.Access.TheVariants.{At, Not, Nowhere}

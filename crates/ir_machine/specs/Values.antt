@@ -1,10 +1,10 @@
 -- What operands stand for, and what instructions that leave memory alone give.
-use Rattle.std.specs.Prelude.{ℕ, ◌+◌, ◌%◌, ◌<◌, ◌≤◌, Bool, true, false, not, ◌&&◌, ◌||◌, ◌==◌, if◌then◌else◌, nat_lt, nat_le, nat_eq, Option, Some, None, option_map, List, [], ◌∷◌, ◌++◌, length, slice_index_or}
+use Rattle.std.specs.Prelude.{ℕ, ◌+◌, ◌%◌, ◌<◌, ◌≤◌, Bool, true, false, ◌&&◌, ◌||◌, ◌==◌, if◌then◌else◌, nat_le, Option, Some, None, List, [], ◌∷◌, length, slice_index_or}
 use Rattle.std.specs.List.{list_any}
 use Rattle.ir_ast.specs.declared.instr.Predicate.{Predicate}
 use Rattle.ir_layout.specs.Bytes.{object_of, number_at}
 use Rattle.ir_value.specs.declared.value.Value.{Value}
-use Rattle.ir_value.specs.declared.value.Value.TheVariants.{Number, Null, Address, Poison}
+use Rattle.ir_value.specs.declared.value.Value.TheVariants.{Number, Address, Poison}
 use Rattle.ir_value.specs.declared.value.Made.{Made}
 use Rattle.ir_value.specs.declared.value.Made.TheVariants as made
 use Rattle.ir_value.specs.declared.value.StuckReason.TheVariants.{U7, U11, U14, U16, U17}

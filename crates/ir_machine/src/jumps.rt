@@ -35,7 +35,7 @@ fn arm_value(
     ensures { result ≡ definition.arm_value memory.now registers.now (definition.arm_from from arms.now) }
 {
     for arm in arms {
-        if arm.from == from || 0 < arms.len() {
+        if arm.from == from {
             return value_of(memory, registers, &arm.input);
         }
     }

@@ -184,22 +184,40 @@ fn started(alloc: Global, function: u32, argument: u64, unset: u32) -> Result<Ma
     })
 }
 
-/// How a run ends, in numbers: a value and byte 2 of the object, or a line where the run is stuck.
-fn told(end: End) -> (u64, u64) {
-    match end {
-        End::Returned(Some(Value::Number(n)), memory) => {
-            if 0 < memory.objects() {
-                match memory.bytes(0).get(2) {
-                    Some(byte) => (n, u64::from(*byte)),
-                    None => (n, 1000),
-                }
-            } else {
-                (n, 1001)
-            }
+/// A byte of object 0.
+fn byte_at(memory: &KMemory, place: usize) -> u64 {
+    if 0 < memory.objects() {
+        match memory.bytes(0).get(place) {
+            Some(byte) => u64::from(*byte),
+            None => 1000,
         }
-        End::Returned(..) => (2000, 0),
-        End::Stuck(StuckReason::U6, line) => (3000, u64::from(line)),
-        End::Stuck(_, line) => (4000, u64::from(line)),
+    } else {
+        1001
+    }
+}
+
+fn number_of(value: Value) -> u64 {
+    match value {
+        Value::Number(n) => n,
+        _ => 2000,
+    }
+}
+
+fn line_of(reason: StuckReason, line: u32) -> (u64, u64) {
+    match reason {
+        StuckReason::U6 => (3000, u64::from(line)),
+        _ => (4000, u64::from(line)),
+    }
+}
+
+/// How a run ends, in numbers: a value and byte 2 of the object, or a line where the run is stuck.
+fn told(end: &End) -> (u64, u64) {
+    match end {
+        End::Returned(value, memory) => match value {
+            Some(value) => (number_of(*value), byte_at(memory, 2)),
+            None => (2001, 0),
+        },
+        End::Stuck(reason, line) => line_of(*reason, *line),
         End::Lost => (5000, 0),
         End::Unfinished => (6000, 0),
     }
@@ -215,7 +233,8 @@ fn end_of(
 ) -> Result<(u64, u64), AllocError> {
     let program = program(alloc, at)?;
     let machine = started(alloc, function, argument, unset)?;
-    Ok(told(run(alloc, &program, steps, machine)?))
+    let end = run(alloc, &program, steps, machine)?;
+    Ok(told(&end))
 }
 
 #[test]
