@@ -1,6 +1,7 @@
 //! Whether two operands of one type are the same, where numbers stand for their values.
 
 ghost use Rattle.std.specs.Prelude.{◌≡◌, ◌<◌, ◌^◌, length, IfOk, MatchBool};
+ghost use Rattle.ir_ast.specs.Plain.{Ty};
 ghost use Rattle.ir_ast.specs.View.{view_type, view_operand, view_gep, view_index_list};
 ghost use Rattle.ir_ast.specs.ProgramView.{view_entries, view_type_entry};
 ghost use Rattle.ir_type.specs.Whole.{meant};
@@ -136,6 +137,24 @@ fn same_indices(
     Ok(true)
 }
 
+/// Whether two operands are the same by their values, at a place of this width in bits.
+fn same_at_width(
+    alloc: Global,
+    numbers: &mut TypeNumbers,
+    types: &TypeTable,
+    width: Option<u32>,
+    first: &Operand,
+    second: &Operand,
+) -> Result<bool, AllocError>
+    requires small { length types.now < 2 ^ 32 }
+    requires own { IsFor (view_entries view_type_entry types.now) numbers.old }
+    ensures same { (t : Ty) → width ≡ width_of t → IfOk result (λ same. MatchBool same (by_value (view_entries view_type_entry types.now) t (view_operand first.now) ≡ by_value (view_entries view_type_entry types.now) t (view_operand second.now)) (by_value (view_entries view_type_entry types.now) t (view_operand first.now) ≡ by_value (view_entries view_type_entry types.now) t (view_operand second.now) → ⊥)) }
+    ensures own { IsFor (view_entries view_type_entry types.now) numbers.new }
+{
+    let same = same_operand(alloc, numbers, types, width, first, second)?;
+    Ok(same)
+}
+
 /// Whether two operands of a type are the same, where a number stands for its value modulo 2 to the width of its place: the types and
 /// the words of an address count as they are spelled, its numbers by their values. It takes time linear in the operands, but for the
 /// look-ups of whole types.
@@ -153,6 +172,6 @@ pub fn same_value(
     ensures own { IsFor (view_entries view_type_entry types.now) numbers.new }
 {
     let width = width_in(alloc, numbers, types, over)?;
-    let same = same_operand(alloc, numbers, types, width, first, second)?;
+    let same = same_at_width(alloc, numbers, types, width, first, second)?;
     Ok(same)
 }
