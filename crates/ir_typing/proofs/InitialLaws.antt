@@ -1,6 +1,6 @@
 -- Initialisers against types by number.
 use Rattle.std.proofs.Common.{◌≡◌, ℕ, zero, suc, ◌+◌, ◌-◌, ◌<◌, ◌≤◌, Bool, true, false, ◌&&◌, ◌==◌, not, Option, Some, None, is_some, is_none, option_map, List, [], ◌∷◌, length, get_or, drop, drop-cons, add-one, refl, sym, ◌∙◌, ap, arith}
-use Rattle.ir_ast.specs.Plain.{Ty, Tys, nothing, integer, pointer, array, structure, packed, named, opaque, no_types, type_and, Inis, bytes_init, array_init, structure_init, packed_init, no_inits, init_and}
+use Rattle.ir_ast.specs.Plain.{Ty, Tys, nothing, integer, pointer, array, structure, packed, named, opaque, no_types, type_and, Inis, bytes_init, array_init, structure_init, packed_init, no_inits}
 use Rattle.std.proofs.Common.{rules}
 use Rattle.std.proofs.lemmas.Bool.{ne_eqb}
 use Rattle.ir_ast.specs.View.{view_type, view_init, view_inits, view_init_list}

@@ -1,12 +1,12 @@
 -- Operands are told to be the same exactly where they are by their values.
-use Rattle.std.proofs.Common.{◌≡◌, ℕ, ℤ, pos, Bool, true, false, ◌&&◌, ◌==◌, Option, Some, None, List, [], ◌∷◌, suc, length, refl, sym, ◌∙◌, ap, subst, int_eq}
+use Rattle.std.proofs.Common.{◌≡◌, ℕ, ℤ, pos, Bool, true, false, ◌&&◌, Option, None, List, [], ◌∷◌, suc, length, refl, sym, ◌∙◌, ap, subst, int_eq}
 use Rattle.std.specs.Bool.{beq, Decides, MatchBool}
 use Rattle.std.specs.Prelude.{bytes_eq}
 use Rattle.std.specs.Cmp.Lexicographic.{same_text}
 use Rattle.std.proofs.lemmas.Bool.{eqb-true, eq-eqb}
 use Rattle.std.proofs.lemmas.Bool.Decides.{Decides-int_eq}
 use Rattle.std.proofs.lemmas.Slice.Eq.{bytes_eq-Decides}
-use Rattle.ir_ast.specs.Plain.{Ty, Tys, nothing, integer, pointer, array, structure, packed, named, opaque, Val, Form, Indices, local, global, number, null, poison, address, form, no_indices, index_and}
+use Rattle.ir_ast.specs.Plain.{Ty, nothing, integer, pointer, array, structure, packed, named, opaque, Val, Form, Indices, local, global, number, null, poison, address, form, no_indices, index_and}
 use Rattle.ir_ast.specs.View.{view_type, view_operand, view_indices}
 use Rattle.ir_ast.specs.declared.types.IrType.{IrType}
 use Rattle.ir_ast.specs.declared.operand.Operand.{Operand}

@@ -1,5 +1,5 @@
 -- Operands by their values: a number stands for its value modulo 2 to the width of its place.
-use Rattle.std.specs.Prelude.{ℕ, ℤ, pos}
+use Rattle.std.specs.Prelude.{ℤ, pos}
 use Rattle.ir_ast.specs.Plain.{Ty, integer, pointer, Val, Form, Indices, number, address, form, no_indices, index_and}
 use Rattle.ir_type.specs.Whole.{Types, meant}
 use Rattle.ir_typing.specs.Fits.{modulo}
