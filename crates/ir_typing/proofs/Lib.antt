@@ -13,3 +13,7 @@ pub mod Agreeing
 pub mod RangeLengths
 pub mod PairKinds
 pub mod Rows
+pub mod SameLaw
+pub mod SameSteps
+pub mod ValueLaws
+pub mod InitialLaws

@@ -7,7 +7,7 @@ use Rattle.ir_ast.specs.View.{view_indices, view_index_list}
 use Rattle.ir_ast.specs.declared.types.IrType.{IrType}
 use Rattle.ir_ast.specs.declared.operand.Operand.{Operand}
 use Rattle.ir_ast.specs.declared.operand.IndexList.{IndexList}
-use Rattle.ir_ast.specs.declared.operand.Operand.TheFolds.{fold_out-IndexList, fold-roll-IndexList}
+use Rattle.ir_ast.specs.declared.operand.Operand.TheFolds.{fold_out-IndexList}
 use Rattle.ir_ast.specs.Table.{place_of}
 use Rattle.ir_type.specs.Whole.{is_scalar, is_same}
 use Rattle.ir_type.specs.Names.{entry_of}
@@ -139,7 +139,7 @@ within_more (Some p) n m l i = (i.0, omega (arith, i.1, l))
 -- ---- the indices of an address
 
 pub list_is : (l : IndexList) → view_index_list l ≡ view_indices l.items.items
-list_is l = search (rules, fold_out-IndexList, fold-roll-IndexList)
+list_is l = search (rules, fold_out-IndexList)
 
 stands_some : (numbers : List Ty) (n : ℕ) (o : Option Ty) → (n ≡ 0 → ⊥) → Stands numbers n o → o ≡ Some (type_at numbers n)
 stands_some numbers n None some stands = absurd (some stands)

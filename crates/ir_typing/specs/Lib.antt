@@ -13,3 +13,6 @@ pub mod Knows
 pub mod Steps
 pub mod Twice
 pub mod Pairs
+pub mod Values
+pub mod Same
+pub mod Initial

@@ -1,0 +1,5 @@
+use Rattle.ir_typing.specs.Scoped.{IsTyped}
+use Rattle.ir_typing_tests.proofs.walk.look_in_blocks.Given as goal
+
+abbrev pub invariant-each : goal.invariant-each
+invariant-each l = IsTyped l.numbers l.scope
