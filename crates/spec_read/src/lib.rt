@@ -4,5 +4,15 @@
 //! how they are read in `specs/ItemReading.antt`, and which raw specification a text spells, or why none, in `specs/Texts.antt`.
 #![tactic(auto)]
 
+pub mod body;
+pub mod field;
+pub mod item;
 pub mod laws;
+pub mod limit;
+pub mod line;
+mod reader;
+pub mod section;
 pub mod sort;
+pub mod top;
+
+pub use reader::read_spec;
