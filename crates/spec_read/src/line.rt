@@ -164,41 +164,9 @@ fn with_body(
     }
 }
 
-/// What the tokens of the line spell in this section.
-fn words_at(
-    alloc: Global,
-    section: Section,
-    line: &LogicalLine<'_>,
-    after: &[LogicalLine<'_>],
-) -> Result<RawItem, SpecStop>
-    ensures { Tells view_item result (definition.words_read section (line_of line.now) (lines_of after.now)) }
-{
-    match item_at(alloc, section, line.tokens.as_slice()) {
-        Ok(Bounded::Within(item, _)) => with_body(line, item, after),
-        Ok(Bounded::TooDeep) => Err(falls(line, SpecReason::S4)),
-        Err(PartStop::NotSpelled) => Err(falls(line, SpecReason::S3)),
-        Err(PartStop::Memory) => Err(SpecStop::Memory),
-    }
-}
-
-/// The line behind others of a section.
-pub fn read_line(
-    alloc: Global,
-    section: Section,
-    line: &LogicalLine<'_>,
-    after: &[LogicalLine<'_>],
-) -> Result<RawItem, SpecStop>
-    ensures { Tells view_item result (definition.line_read section (line_of line.now) (lines_of after.now)) }
-{
-    if closes(line.tokens.as_slice()) {
-        words_at(alloc, section_at(section, line), line, after)
-    } else {
-        Err(falls(line, SpecReason::S3))
-    }
-}
-
-/// The line at its place, before these others: what it spells there, `S3` where it spells nothing, as a line that is out of place, a
-/// `def` without a `return` behind it, or one whose brackets do not close, or `S4` where an expression of it is deeper than 100.
+/// The line behind others of a section, before these: what it spells at its place, `S3` where it spells nothing there, as a line that is
+/// out of place, a `def` without a `return` behind it, or one whose brackets do not close, or `S4` where an expression of it is deeper
+/// than 100.
 #[tactic(auto, using(crate::proofs::LineAnswers::line_answer))]
 pub fn line_at(
     alloc: Global,
@@ -206,7 +174,16 @@ pub fn line_at(
     line: &LogicalLine<'_>,
     after: &[LogicalLine<'_>],
 ) -> Result<RawItem, SpecStop>
-    ensures { (place : Place) → sections.section_of place ≡ section → IsLineAnswer place (line_of line.now) (lines_of after.now) result }
+    ensures value { Tells view_item result (definition.line_read section (line_of line.now) (lines_of after.now)) }
+    ensures answer { (place : Place) → sections.section_of place ≡ section → IsLineAnswer place (line_of line.now) (lines_of after.now) result }
 {
-    read_line(alloc, section, line, after)
+    if !closes(line.tokens.as_slice()) {
+        return Err(falls(line, SpecReason::S3));
+    }
+    match item_at(alloc, section_at(section, line), line.tokens.as_slice()) {
+        Ok(Bounded::Within(item, _)) => with_body(line, item, after),
+        Ok(Bounded::TooDeep) => Err(falls(line, SpecReason::S4)),
+        Err(PartStop::NotSpelled) => Err(falls(line, SpecReason::S3)),
+        Err(PartStop::Memory) => Err(SpecStop::Memory),
+    }
 }

@@ -11,7 +11,7 @@ ghost use Rattle.spec_read.specs.LineReading.{Tells, GoesOn};
 ghost use Rattle.spec_read.specs.Laws.{IsSpecOf, FailsText};
 ghost use Rattle.spec_read.specs.Told as told;
 
-use crate::line::{next_section, read_line, section_at};
+use crate::line::{line_at, next_section, section_at};
 use crate::section::Section;
 use spec_ast::{RawLine, RawSpec, SpecStop};
 use spec_lex::{LogicalLine, lines};
@@ -27,7 +27,7 @@ fn put_line(
 ) -> Result<Section, SpecStop>
     ensures { GoesOn (view_lines found.old.items) (view_lines found.new.items) section (line_of line.now ∷ lines_of after.now) (lines_of after.now) result }
 {
-    let item = read_line(alloc, section, line, after)?;
+    let item = line_at(alloc, section, line, after)?;
     let next = next_section(section_at(section, line), &item);
     let line = line.line;
     found.push(RawLine { line, item })?;
@@ -47,6 +47,19 @@ fn read_lines(alloc: Global, lines: &[LogicalLine<'_>]) -> Result<Vec<RawLine>, 
     Ok(found)
 }
 
+/// The raw specification of a text.
+fn spec_of(alloc: Global, text: &[u8]) -> Result<RawSpec, SpecStop>
+    requires { length text.now < 2 ^ 31 }
+    ensures answer { told.IsAnswer text.now result }
+    ensures only { (raws : List raw.Line) → IsSpecOf text.now raws → told.IsRead raws result }
+    ensures first { (fault : SpecFault) → FailsText text.now fault → told.IsRefused fault result }
+    ensures one { (a b : List raw.Line) → IsSpecOf text.now a → IsSpecOf text.now b → a ≡ b }
+{
+    let found = lines(alloc, text)?;
+    let lines = read_lines(alloc, found.as_slice())?;
+    Ok(RawSpec { lines })
+}
+
 /// The raw specification of a text. `Refused` names the first line that fails and its least reason: of the whole text a byte outside the
 /// tokens (`S1`) or an indentation other than none or four spaces (`S2`); where there is none, a line of no production or out of place
 /// (`S3`), or an expression deeper than 100 (`S4`). It comes exactly where there is one. The time is linear in the text.
@@ -57,7 +70,5 @@ pub fn read_spec(alloc: Global, text: &[u8]) -> Result<RawSpec, SpecStop>
     ensures first { (fault : SpecFault) → FailsText text.now fault → told.IsRefused fault result }
     ensures one { (a b : List raw.Line) → IsSpecOf text.now a → IsSpecOf text.now b → a ≡ b }
 {
-    let found = lines(alloc, text)?;
-    let lines = read_lines(alloc, found.as_slice())?;
-    Ok(RawSpec { lines })
+    spec_of(alloc, text)
 }

@@ -4,7 +4,7 @@ use Rattle.spec_read.specs.LineReading.{lines_read}
 use Rattle.spec_read.specs.declared.section.Section.TheVariants.{Nowhere}
 use Rattle.spec_read.proofs.TextLaws.{one_spec}
 use Rattle.spec_read.proofs.TextAnswers.{FaultTold, answers_read, answers_fault, answers_lines, answer_only, answer_first}
-use Rattle.spec_read.proofs.reader.read_spec.Goals as goal
+use Rattle.spec_read.proofs.reader.spec_of.Goals as goal
 
 -- ---- a fault of the first kinds
 
