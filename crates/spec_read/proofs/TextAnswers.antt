@@ -1,6 +1,6 @@
 -- From the lines that are read to what the answer for a text says.
-use Rattle.std.proofs.Common.{◌≡◌, ℕ, inl, inr, List, subst}
-use Rattle.std.specs.Prelude.{Result, Ok, Err}
+use Rattle.std.proofs.Common.{◌≡◌, ℕ, inl, inr, List, refl, subst}
+use Rattle.std.specs.Prelude.{Option, Some, None, ◌⊎◌, Result, Ok, Err}
 use Rattle.spec_ast.specs.declared.fault.SpecFault.{SpecFault}
 use Rattle.spec_ast.specs.declared.fault.SpecStop.{SpecStop}
 use Rattle.spec_ast.specs.declared.fault.SpecStop.TheVariants.{Refused, Memory}
@@ -8,7 +8,10 @@ use Rattle.spec_ast.specs.Raw as raw
 use Rattle.spec_ast.specs.View.{view_spec}
 use Rattle.spec_ast.specs.declared.raw.RawSpec.{RawSpec}
 use Rattle.spec_lex.specs.Lines.{Line, AreLinesOf}
-use Rattle.spec_lex.specs.Faults.{AreClean}
+use Rattle.spec_lex.specs.Faults.{AreClean, first_fault}
+use Rattle.spec_lex.specs.Reading.{read_lines}
+use Rattle.spec_lex.proofs.LineLaws.{lines_sound}
+use Rattle.spec_lex.proofs.FaultLaws.{none_clean, fault_first}
 use Rattle.spec_lex.specs.Answers.{IsFaultOf}
 use Rattle.spec_read.specs.Places.{nowhere}
 use Rattle.spec_read.specs.declared.section.Section.TheVariants.{Nowhere}
@@ -48,3 +51,16 @@ pub answer_first : (text : List ℕ) (r : Result RawSpec SpecStop) → IsAnswer 
 answer_first text (Ok spec) is fault fails = fails_or_spells text (view_spec spec) fault is fails
 answer_first text (Err (Refused given)) is fault fails = one_fault_only text given fault is fails
 answer_first text (Err Memory) is fault fails = tt
+
+-- ---- every text has an answer
+
+lines_by : (text : List ℕ) (ls : List Line) (r : Result (List raw.Line) SpecFault) → AreLinesOf text ls → AreClean ls → lines_read Nowhere ls ≡ r → ((raws : List raw.Line) × IsSpecOf text raws) ⊎ ((fault : SpecFault) × FailsText text fault)
+lines_by text ls (Ok raws) are clean reads = inl (raws, (ls, are, clean, told_by ls (Ok raws) reads))
+lines_by text ls (Err fault) are clean reads = inr (fault, (ls, are, inr (clean, told_by ls (Err fault) reads)))
+
+first_by : (text : List ℕ) (ls : List Line) (o : Option SpecFault) → AreLinesOf text ls → first_fault ls ≡ o → ((raws : List raw.Line) × IsSpecOf text raws) ⊎ ((fault : SpecFault) × FailsText text fault)
+first_by text ls None are is = lines_by text ls (lines_read Nowhere ls) are (none_clean ls is) refl
+first_by text ls (Some fault) are is = inr (fault, (ls, are, inl (fault_first ls fault is)))
+
+pub spells_or_fails : (text : List ℕ) → ((raws : List raw.Line) × IsSpecOf text raws) ⊎ ((fault : SpecFault) × FailsText text fault)
+spells_or_fails text = first_by text (read_lines text) (first_fault (read_lines text)) (lines_sound text) refl

@@ -34,3 +34,6 @@ FailsOrSpells = (text : List ℕ) (raws : List raw.Line) (fault : SpecFault) →
 
 abbrev pub HasOneFault : Type 0
 HasOneFault = (text : List ℕ) (f g : SpecFault) → FailsText text f → FailsText text g → f ≡ g
+
+abbrev pub SpellsOrFails : Type 0
+SpellsOrFails = (text : List ℕ) → ((raws : List raw.Line) × IsSpecOf text raws) ⊎ ((fault : SpecFault) × FailsText text fault)
