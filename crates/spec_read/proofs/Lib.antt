@@ -11,3 +11,4 @@ pub mod ItemDepth
 pub mod LineTold
 pub mod LineAnswers
 pub mod TextAnswers
+pub mod FaultPlaces

@@ -1,10 +1,11 @@
 //! The call that reads a whole text.
 
-ghost use Rattle.std.specs.Prelude.{◌≡◌, ◌+◌, ◌<◌, ◌^◌, ◌∷◌, List, length};
+ghost use Rattle.std.specs.Prelude.{◌≡◌, ◌+◌, ◌<◌, ◌^◌, ◌∷◌, List, length, IfErr};
 ghost use Rattle.spec_ast.specs.Raw as raw;
 ghost use Rattle.spec_ast.specs.View.{view_lines, view_spec};
 ghost use Rattle.spec_ast.specs.declared.fault.SpecFault.{SpecFault};
 ghost use Rattle.spec_lex.specs.Lines.{line_of, lines_of};
+ghost use Rattle.spec_lex.specs.Answers.{IsLineOf};
 ghost use Rattle.spec_read.specs.declared.section.Section.TheVariants.{Nowhere};
 ghost use Rattle.spec_read.specs.LineReading as definition;
 ghost use Rattle.spec_read.specs.LineReading.{Tells, GoesOn};
@@ -54,6 +55,7 @@ fn spec_of(alloc: Global, text: &[u8]) -> Result<RawSpec, SpecStop>
     ensures only { (raws : List raw.Line) → IsSpecOf text.now raws → told.IsRead raws result }
     ensures first { (fault : SpecFault) → FailsText text.now fault → told.IsRefused fault result }
     ensures one { (a b : List raw.Line) → IsSpecOf text.now a → IsSpecOf text.now b → a ≡ b }
+    ensures within { IfErr result (IsLineOf text.now) }
 {
     let found = lines(alloc, text)?;
     let lines = read_lines(alloc, found.as_slice())?;
@@ -69,6 +71,7 @@ pub fn read_spec(alloc: Global, text: &[u8]) -> Result<RawSpec, SpecStop>
     ensures only { (raws : List raw.Line) → IsSpecOf text.now raws → told.IsRead raws result }
     ensures first { (fault : SpecFault) → FailsText text.now fault → told.IsRefused fault result }
     ensures one { (a b : List raw.Line) → IsSpecOf text.now a → IsSpecOf text.now b → a ≡ b }
+    ensures within { IfErr result (IsLineOf text.now) }
 {
     spec_of(alloc, text)
 }

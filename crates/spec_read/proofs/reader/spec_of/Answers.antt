@@ -3,6 +3,7 @@ use Rattle.std.proofs.lemmas.Result.{err_from_is_err_and}
 use Rattle.spec_read.specs.LineReading.{lines_read}
 use Rattle.spec_read.specs.declared.section.Section.TheVariants.{Nowhere}
 use Rattle.spec_read.proofs.TextLaws.{one_spec}
+use Rattle.spec_read.proofs.FaultPlaces.{answer_within}
 use Rattle.spec_read.proofs.TextAnswers.{FaultTold, answers_read, answers_fault, answers_lines, answer_only, answer_first}
 use Rattle.spec_read.proofs.reader.spec_of.Goals as goal
 
@@ -48,3 +49,6 @@ returns-clause-first c = answer_first c.args.text.now (Ok (record { lines = c.in
 
 pub returns-clause-one : goal.returns-clause-one
 returns-clause-one c = one_spec c.args.text.now
+
+pub returns-in_err-lines-clause-within : goal.returns-in_err-lines-clause-within
+returns-in_err-lines-clause-within c = answer_within c.args.text.now c.from_residual-in_err-lines.result (returns-in_err-lines-clause-answer c)
