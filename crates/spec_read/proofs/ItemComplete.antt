@@ -17,7 +17,7 @@ use Rattle.spec_expr.proofs.Parts.{same_text}
 use Rattle.spec_expr.proofs.GrownLaws.{bounded_join}
 use Rattle.spec_read.specs.Places.{Function, Place, top, class_body, body_of, nowhere, function_of, is_handler}
 use Rattle.spec_read.specs.Items.{SpellsNewSort, SpellsSort, AreMoreSorts, SpellsKeys, AreMoreParameters, AreParameters, IsIn, IsInHandler, IsInOther, SpellsItem}
-use Rattle.spec_read.specs.ItemReading.{follows, at_end, or_else, begins_round, new_sort_at, sort_at, more_sorts_at, few_keys, keys_at, more_parameters_at, parameters_at, plain, constant_of, top_from, class_from, def_with, def_from, top_at, field_from, class_at, same_depth, expr_end, let_from, var_from, copy_from, write_value, result_from, return_from, statement_from, body_at, item_at, limited_item}
+use Rattle.spec_read.specs.ItemReading.{follows, at_end, or_else, begins_round, new_sort_at, sort_at, more_sorts_at, few_keys, keys_at, more_parameters_at, parameters_at, plain, constant_of, top_from, class_from, def_with, def_from, top_at, field_from, class_at, same_depth, expr_end, let_from, var_from, copy_from, assigned_at, write_value, result_from, return_from, statement_from, body_at, item_at, limited_item}
 
 goes_on : {A B : Type 0} (o : Option (A × List Text)) (on : A → List Text → Option B) (a : A) (rest : List Text) → o ≡ Some (a, rest) → follows o on ≡ on a rest
 goes_on o on a rest is = ap (λ p. follows p on) is
@@ -237,7 +237,8 @@ scalar_end x (Index w n) ts (width, size, is_width, is_size, parts) =
 def_end : (x : Text) (xs : List Text) (f : Function) → function_of x xs ≡ Some f → def_with x xs (function_of x xs) [] ≡ Some (plain (def_line x xs))
 def_end x xs f is = ap (λ o. def_with x xs o []) is
 
-item_there : (most n : ℕ) (place : Place) (item : Item) (ts : List Text) → SpellsItem place item ts → length ts < n → item_at most n place ts ≡ Some (limited_item most item)
+pub item_there : (most n : ℕ) (place : Place) (item : Item) (ts : List Text) → SpellsItem place item ts → length ts < n → item_at most n place ts ≡ Some (limited_item most item)
+unfolding assigned_at
 item_there most n place (sort_line x s) ts (inner, at, name, spelled, parts) short =
     top_is most n place ts at ∙ ap top_at parts ∙ top_named x inner name ∙ sort_end x s inner spelled
 item_there most n place (constant_line x z) ts (k, text, at, name, is, inl (value, parts)) short =
@@ -324,7 +325,7 @@ item_there most n place (end_line e s (Some r)) ts (inner, result, at, spelled, 
 
 -- ---- kept whole where the limit is high enough
 
-abbrev item_depth : Item → ℕ
+abbrev pub item_depth : Item → ℕ
 item_depth (let_line x e) = depth e
 item_depth (write_line c f None e) = depth e
 item_depth (write_line c f (Some es) e) = max (depths es) (depth e)
@@ -336,7 +337,7 @@ item_depth _ = 0
 lift_kept : (most : ℕ) (f : Tree → Item) (e : Tree) → depth e ≤ most → lift most f same_depth (limited most e) ≡ built (f e) (depth e)
 lift_kept most f e h = ap (lift most f same_depth) (kept most e h) ∙ rw (le-leb (depth e) most h) refl
 
-kept_item : (most : ℕ) (item : Item) → item_depth item ≤ most → limited_item most item ≡ built item (item_depth item)
+pub kept_item : (most : ℕ) (item : Item) → item_depth item ≤ most → limited_item most item ≡ built item (item_depth item)
 kept_item most (let_line x e) h = lift_kept most (let_line x) e h
 kept_item most (write_line c f None e) h = lift_kept most (write_line c f None) e h
 kept_item most (write_line c f (Some es) e) h =
@@ -350,7 +351,7 @@ kept_item most _ h = refl
 some_is : (a b : Grown Item) → Some a ≡ Some b → a ≡ b
 some_is a b h = cc
 
-built_is : (i j : Item) (m n : ℕ) → built i m ≡ built j n → i ≡ j
+pub built_is : (i j : Item) (m n : ℕ) → built i m ≡ built j n → i ≡ j
 built_is i j m n h = cc
 
 pub one_item : (place : Place) (i j : Item) (ts : List Text) → SpellsItem place i ts → SpellsItem place j ts → i ≡ j

@@ -1,5 +1,14 @@
+pub mod Prefixes
 pub mod ItemComplete
 pub mod TextLaws
 pub mod SortSteps
+pub mod ItemSteps
 pub mod SortSound
 pub mod TopSound
+pub mod ClassSound
+pub mod BodySound
+pub mod ItemDepth
+pub mod LineTold
+pub mod LineAnswers
+pub mod TextAnswers
+pub mod FaultPlaces

@@ -1,5 +1,5 @@
 -- The sorts, keys and parameters that are read are spelled there.
-use Rattle.std.proofs.Common.{◌≡◌, ℕ, zero, suc, ◌≤◌, Bool, true, false, inl, inr, Some, None, List, [], ◌∷◌, ◌++◌, length, refl, sym, ap, subst, ◌∙◌}
+use Rattle.std.proofs.Common.{◌≡◌, ℕ, zero, suc, ◌≤◌, Bool, true, false, inl, inr, Some, None, List, [], ◌∷◌, ◌++◌, length, refl, ap, subst, ◌∙◌}
 use Rattle.std.specs.Prelude.{Option, nat_le, if◌then◌else◌, bytes_eq, codes}
 use Rattle.std.proofs.lemmas.Bool.{leb-true}
 use Rattle.spec_ast.specs.declared.raw.RawSort.{RawSort}

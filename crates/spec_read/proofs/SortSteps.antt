@@ -4,7 +4,7 @@ use Rattle.std.specs.Prelude.{Option, Result, Ok, Err, nat_le, if◌then◌else�
 use Rattle.std.proofs.lemmas.Bool.{leb-false, leb-true, le-leb, lt-leb}
 use Rattle.spec_ast.specs.declared.raw.RawSort.{RawSort}
 use Rattle.spec_expr.specs.Words.{Text}
-use Rattle.spec_expr.specs.Reading.{Reader, after, name_at}
+use Rattle.spec_expr.specs.Reading.{after, name_at}
 use Rattle.spec_expr.specs.Many.{many_at, listed_names}
 use Rattle.spec_expr.proofs.Steps.{past_step}
 use Rattle.spec_expr.proofs.Lists.{after_same, same_turn}

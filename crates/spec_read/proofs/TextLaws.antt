@@ -1,14 +1,17 @@
 -- A text spells at most one raw specification, and none where it fails; and it fails at one line at most.
-use Rattle.std.proofs.Common.{◌≡◌, ℕ, inl, inr, List, [], ◌∷◌, refl, ap, sym, subst, ◌∙◌}
+use Rattle.std.proofs.Common.{◌≡◌, ℕ, inl, inr, Some, None, List, [], ◌∷◌, refl, ap, sym, subst, ◌∙◌}
 use Rattle.spec_ast.specs.declared.fault.SpecReason.{SpecReason}
 use Rattle.spec_ast.specs.declared.fault.SpecReason.TheVariants.{S3, S4}
+use Rattle.spec_ast.specs.declared.fault.SpecFault.{SpecFault}
 use Rattle.spec_ast.specs.Raw as raw
 use Rattle.spec_ast.specs.Raw.{Item}
 use Rattle.spec_lex.specs.Lines.{Line, AreLinesOf}
+use Rattle.spec_lex.specs.Faults.{AreClean, IsFirstFault}
 use Rattle.spec_lex.proofs.LineLaws.{lines_complete}
+use Rattle.spec_lex.proofs.FaultLaws.{clean_none, first_found}
 use Rattle.spec_read.specs.Places.{Place, nowhere}
 use Rattle.spec_read.specs.Texts.{texts, place_of, place_behind, SpellsLine, IsS4, SpellsLines, IsLineFault, FailsAt}
-use Rattle.spec_read.specs.Laws.{IsSpecOf, FailsText}
+use Rattle.spec_read.specs.Laws.{IsSpecOf, IsTextFault, FailsText}
 use Rattle.spec_read.proofs.ItemComplete.{one_item}
 
 same_item : (place : Place) (l : Line) (ls : List Line) (i j : Item) → SpellsLine place l ls i → SpellsLine place l ls j → i ≡ j
@@ -53,10 +56,28 @@ same_lines : (text : List ℕ) (a b : List Line) → AreLinesOf text a → AreLi
 same_lines text a b first second = sym (lines_complete text a first) ∙ lines_complete text b second
 
 pub one_spec : (text : List ℕ) (a b : List raw.Line) → IsSpecOf text a → IsSpecOf text b → a ≡ b
-one_spec text a b (ls, are, spells) (ms, also, others) = lines_one ms nowhere a b (subst (λ ks. SpellsLines nowhere ks a) (same_lines text ls ms are also) spells) others
+one_spec text a b (ls, are, clean, spells) (ms, also, tidy, others) = lines_one ms nowhere a b (subst (λ ks. SpellsLines nowhere ks a) (same_lines text ls ms are also) spells) others
 
-pub fails_or_spells : (text : List ℕ) (raws : List raw.Line) (line : ℕ) (reason : SpecReason) → IsSpecOf text raws → FailsText text line reason → ⊥
-fails_or_spells text raws line reason (ls, are, spells) (ms, also, fails) = fails_spells ls nowhere line reason raws (subst (λ ks. FailsAt nowhere ks line reason) (same_lines text ms ls also are) fails) spells
+-- lines without a fault of the first kinds have none
+clean_first : (ls : List Line) (fault : SpecFault) → AreClean ls → IsFirstFault ls fault → ⊥
+clean_first ls fault clean first = let both : None ≡ Some fault = sym (clean_none ls clean) ∙ first_found ls fault first in cc
 
-pub one_fault_only : (text : List ℕ) (m n : ℕ) (r s : SpecReason) → FailsText text m r → FailsText text n s → (m ≡ n) × (r ≡ s)
-one_fault_only text m n r s (ls, are, fails) (ms, also, others) = one_fault ms nowhere m n r s (subst (λ ks. FailsAt nowhere ks m r) (same_lines text ls ms are also) fails) others
+pub fails_or_spells : (text : List ℕ) (raws : List raw.Line) (fault : SpecFault) → IsSpecOf text raws → FailsText text fault → ⊥
+fails_or_spells text raws fault (ls, are, clean, spells) (ms, also, inl first) = clean_first ls fault clean (subst (λ ks. IsFirstFault ks fault) (same_lines text ms ls also are) first)
+fails_or_spells text raws fault (ls, are, clean, spells) (ms, also, inr (tidy, fails)) =
+    fails_spells ls nowhere fault.line fault.reason raws (subst (λ ks. FailsAt nowhere ks fault.line fault.reason) (same_lines text ms ls also are) fails) spells
+
+same_some : (f g : SpecFault) → Some f ≡ Some g → f ≡ g
+same_some f g h = cc
+
+same_parts : (f g : SpecFault) → f.line ≡ g.line → f.reason ≡ g.reason → f ≡ g
+same_parts f g lines reasons = ap (λ n. record { line = n; reason = f.reason }) lines ∙ ap (λ r. record { line = g.line; reason = r }) reasons
+
+one_text_fault : (ls : List Line) (f g : SpecFault) → IsTextFault ls f → IsTextFault ls g → f ≡ g
+one_text_fault ls f g (inl a) (inl b) = same_some f g (sym (first_found ls f a) ∙ first_found ls g b)
+one_text_fault ls f g (inl a) (inr (clean, b)) = absurd (clean_first ls f clean a)
+one_text_fault ls f g (inr (clean, a)) (inl b) = absurd (clean_first ls g clean b)
+one_text_fault ls f g (inr (clean, a)) (inr (tidy, b)) = let both = one_fault ls nowhere f.line g.line f.reason g.reason a b in same_parts f g both.0 both.1
+
+pub one_fault_only : (text : List ℕ) (f g : SpecFault) → FailsText text f → FailsText text g → f ≡ g
+one_fault_only text f g (ls, are, fails) (ms, also, others) = one_text_fault ms f g (subst (λ ks. IsTextFault ks f) (same_lines text ls ms are also) fails) others

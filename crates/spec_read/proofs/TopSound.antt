@@ -1,8 +1,7 @@
 -- The lines that are read without indentation are spelled there.
-use Rattle.std.proofs.Common.{◌≡◌, ℕ, ◌⊎◌, inl, inr, Bool, true, false, Some, None, List, [], ◌∷◌, ◌++◌, length, refl, sym, ap, subst, ◌∙◌, append-nil}
-use Rattle.std.specs.Prelude.{Option, ℤ, pos, neg_ℤ, if◌then◌else◌, ◌&&◌, bytes_eq, codes}
-use Rattle.spec_ast.specs.declared.raw.RawSort.{RawSort}
-use Rattle.spec_ast.specs.Raw.{Item, sort_line, constant_line, hook_line, class_line, field_line, def_line}
+use Rattle.std.proofs.Common.{◌≡◌, ℕ, inl, inr, Bool, true, false, Some, None, List, [], ◌∷◌, ◌++◌, refl, sym, ap, subst, ◌∙◌, append-nil}
+use Rattle.std.specs.Prelude.{Option, ℤ, pos, neg_ℤ, if◌then◌else◌, bytes_eq, codes}
+use Rattle.spec_ast.specs.Raw.{Item, sort_line, constant_line, hook_line, class_line, def_line}
 use Rattle.spec_expr.specs.Words.{Text, is_name, number_of}
 use Rattle.spec_expr.specs.Grown.{Grown}
 use Rattle.spec_expr.specs.Reading.{past, name_at}
@@ -37,7 +36,7 @@ pub record FoundItem (place : Place) (ts : List Text) (g : Grown Item) : Type 0 
   pub spelled : SpellsItem place item ts
   pub grown : (most : ℕ) → g ≡ limited_item most item
 
-moved : (place : Place) (ts us : List Text) (g : Grown Item) → ts ≡ us → FoundItem place us g → FoundItem place ts g
+pub moved : (place : Place) (ts us : List Text) (g : Grown Item) → ts ≡ us → FoundItem place us g → FoundItem place ts g
 moved place ts us g is found = subst (λ ws. FoundItem place ws g) (sym is) found
 
 record Constant (x : Text) (sign : ℕ → ℤ) (o : Option ℕ) (ts : List Text) (g : Grown Item) : Type 0 where

@@ -71,23 +71,35 @@ abbrev pub constant_of : Text → (ℕ → ℤ) → Option ℕ → List Text →
 constant_of x sign None ts = None
 constant_of x sign (Some n) ts = at_end (plain (constant_line x (sign n))) ts
 
+-- behind `NAME = Hook (`
+abbrev pub hook_from : Text → List Text → Option (Grown Item)
+hook_from x ts = past (codes ")") ts (λ rest. at_end (plain (hook_line x)) rest)
+
+-- behind `NAME =` and a word with its parenthesis
+abbrev pub new_sort_from : Text → Text → List Text → Option (Grown Item)
+new_sort_from x t ts = follows (new_sort_at t ts) (λ s rest. at_end (plain (sort_line x s)) rest)
+
 -- behind `NAME =`, with the words behind the first
 abbrev pub top_value : Text → Text → List Text → Option (Grown Item)
 top_value x t [] = constant_of x pos (number_of t) []
 top_value x t (u ∷ ts) =
     if bytes_eq u (codes "(")
-    then (if bytes_eq t (codes "Hook") then past (codes ")") ts (λ rest. at_end (plain (hook_line x)) rest) else follows (new_sort_at t ts) (λ s rest. at_end (plain (sort_line x s)) rest))
+    then (if bytes_eq t (codes "Hook") then hook_from x ts else new_sort_from x t ts)
     else (if bytes_eq t (codes "-") then constant_of x (λ n. neg_ℤ (pos n)) (number_of u) ts else None)
 
 abbrev pub top_from : Text → List Text → Option (Grown Item)
 top_from x [] = None
 top_from x (t ∷ ts) = top_value x t ts
 
+-- behind `class NAME (`
+abbrev pub based_from : Text → List Text → Option (Grown Item)
+based_from x ts = follows (name_at ts) (λ base rest. past (codes ")") rest (λ rest. past (codes ":") rest (λ rest. at_end (plain (class_line x)) rest)))
+
 abbrev pub class_from : Text → List Text → Option (Grown Item)
 class_from x [] = None
 class_from x (t ∷ ts) =
     if bytes_eq t (codes ":") then at_end (plain (class_line x)) ts
-    else (if bytes_eq t (codes "(") then follows (name_at ts) (λ base rest. past (codes ")") rest (λ rest. past (codes ":") rest (λ rest. at_end (plain (class_line x)) rest))) else None)
+    else (if bytes_eq t (codes "(") then based_from x ts else None)
 
 abbrev pub def_with : Text → List Text → Option Function → List Text → Option (Grown Item)
 def_with x xs None ts = None
@@ -96,24 +108,43 @@ def_with x xs (Some f) ts = at_end (plain (def_line x xs)) ts
 abbrev pub def_from : Text → List Text → Option (Grown Item)
 def_from x ts = past (codes "(") ts (λ rest. follows (parameters_at rest) (λ xs rest. past (codes ":") rest (λ rest. def_with x xs (function_of x xs) rest)))
 
+-- behind `class`
+abbrev pub class_behind : List Text → Option (Grown Item)
+class_behind ts = follows (name_at ts) class_from
+
+-- behind `def`
+abbrev pub def_behind : List Text → Option (Grown Item)
+def_behind ts = follows (name_at ts) def_from
+
+-- behind a name
+abbrev pub assigned_top : Text → List Text → Option (Grown Item)
+assigned_top x ts = past (codes "=") ts (top_from x)
+
 abbrev pub top_at : List Text → Option (Grown Item)
 top_at [] = None
 top_at (t ∷ ts) =
-    if bytes_eq t (codes "class") then follows (name_at ts) class_from
-    else (if bytes_eq t (codes "def") then follows (name_at ts) def_from
-    else (if is_name t then past (codes "=") ts (top_from t) else None))
+    if bytes_eq t (codes "class") then class_behind ts
+    else (if bytes_eq t (codes "def") then def_behind ts
+    else (if is_name t then assigned_top t ts else None))
 
 abbrev pub map_from : Text → List Text → Option (Grown Item)
 map_from x ts = follows (keys_at ts) (λ keys rest. past (codes ",") rest (λ rest. follows (sort_at rest) (λ s rest. past (codes ")") rest (λ rest. at_end (plain (field_line x keys s)) rest))))
 
+abbrev pub scalar_from : Text → List Text → Option (Grown Item)
+scalar_from x ts = follows (sort_at ts) (λ s rest. at_end (plain (field_line x [] s)) rest)
+
 abbrev pub field_from : Text → List Text → Option (Grown Item)
 field_from x [] = None
 field_from x (t ∷ ts) =
-    if begins_round ts && bytes_eq t (codes "Map") then map_from x (drop 1 ts) else follows (sort_at (t ∷ ts)) (λ s rest. at_end (plain (field_line x [] s)) rest)
+    if begins_round ts && bytes_eq t (codes "Map") then map_from x (drop 1 ts) else scalar_from x (t ∷ ts)
+
+-- behind a name
+abbrev pub assigned_field : Text → List Text → Option (Grown Item)
+assigned_field x ts = past (codes "=") ts (field_from x)
 
 abbrev pub class_at : List Text → Option (Grown Item)
 class_at [] = None
-class_at (t ∷ ts) = if is_name t then past (codes "=") ts (field_from t) else None
+class_at (t ∷ ts) = if is_name t then assigned_field t ts else None
 
 abbrev pub same_depth : ℕ → ℕ
 same_depth m = m
@@ -125,28 +156,37 @@ expr_end most n item ts = follows (expr_at most n ts) (λ e rest. at_end (item e
 abbrev pub let_from : ℕ → ℕ → Text → List Text → Option (Grown Item)
 let_from most n x ts = expr_end most n (lift most (let_line x) same_depth) ts
 
+-- behind `NAME = Var`
+abbrev pub variable_from : Text → List Text → Option (Grown Item)
+variable_from x ts = past (codes "(") ts (λ rest. follows (sort_at rest) (λ s rest. past (codes ")") rest (λ rest. at_end (plain (var_line x s)) rest)))
+
 abbrev pub var_from : Text → List Text → Option (Grown Item)
 var_from x [] = None
 var_from x (t ∷ ts) =
-    if bytes_eq t (codes "Var") then past (codes "(") ts (λ rest. follows (sort_at rest) (λ s rest. past (codes ")") rest (λ rest. at_end (plain (var_line x s)) rest))) else None
+    if bytes_eq t (codes "Var") then variable_from x ts else None
+
+-- the words of a copy
+abbrev pub copied_from : Text → List Text → Option (Grown Item)
+copied_from x ts =
+    follows (name_at ts) (λ s rest. past (codes ".") rest (λ rest. past (codes "copy") rest (λ rest. past (codes "(") rest (λ rest. past (codes ")") rest (λ rest. at_end (plain (copy_line x s)) rest)))))
 
 abbrev pub copy_from : Function → Text → List Text → Option (Grown Item)
-copy_from f x ts =
-    if is_handler f
-    then follows (name_at ts) (λ s rest. past (codes ".") rest (λ rest. past (codes "copy") rest (λ rest. past (codes "(") rest (λ rest. past (codes ")") rest (λ rest. at_end (plain (copy_line x s)) rest)))))
-    else None
+copy_from f x ts = if is_handler f then copied_from x ts else None
 
-abbrev pub assigned_at : ℕ → ℕ → Function → Text → List Text → Option (Grown Item)
+unfoldable pub assigned_at : ℕ → ℕ → Function → Text → List Text → Option (Grown Item)
 assigned_at most n f x ts = or_else (let_from most n x ts) (or_else (var_from x ts) (copy_from f x ts))
+
+-- behind `NAME . NAME [`
+abbrev pub keyed_from : ℕ → ℕ → Text → Text → List Text → Option (Grown Item)
+keyed_from most n c f ts =
+    follows (arguments_at most (expr_at most n) (codes "]") ts)
+    (λ es rest. past (codes "=") rest (λ rest. expr_end most n (join most (λ at e. write_line c f (Some at) e) max es) rest))
 
 abbrev pub write_value : ℕ → ℕ → Text → Text → List Text → Option (Grown Item)
 write_value most n c f [] = None
 write_value most n c f (t ∷ ts) =
     if bytes_eq t (codes "=") then expr_end most n (lift most (write_line c f None) same_depth) ts
-    else (if bytes_eq t (codes "[")
-    then follows (arguments_at most (expr_at most n) (codes "]") ts)
-    (λ es rest. past (codes "=") rest (λ rest. expr_end most n (join most (λ at e. write_line c f (Some at) e) max es) rest))
-    else None)
+    else (if bytes_eq t (codes "[") then keyed_from most n c f ts else None)
 
 abbrev pub write_from : ℕ → ℕ → Function → Text → List Text → Option (Grown Item)
 write_from most n f c ts = if is_handler f then follows (name_at ts) (write_value most n c) else None
@@ -155,10 +195,13 @@ abbrev pub result_from : ℕ → ℕ → Grown Tree → Text → List Text → O
 result_from most n e s [] = Some (lift most (λ x. end_line x s None) same_depth e)
 result_from most n e s (t ∷ ts) = if bytes_eq t (codes ",") then expr_end most n (join most (λ x r. end_line x s (Some r)) max e) ts else None
 
+-- the result of a transition: behind its `return`
+abbrev pub ending_from : ℕ → ℕ → List Text → Option (Grown Item)
+ending_from most n ts = follows (expr_at most n ts) (λ e rest. past (codes ",") rest (λ rest. follows (name_at rest) (result_from most n e)))
+
 abbrev pub return_from : ℕ → ℕ → Function → List Text → Option (Grown Item)
 return_from most n f ts =
-    if is_handler f then follows (expr_at most n ts) (λ e rest. past (codes ",") rest (λ rest. follows (name_at rest) (result_from most n e)))
-    else expr_end most n (lift most return_line same_depth) ts
+    if is_handler f then ending_from most n ts else expr_end most n (lift most return_line same_depth) ts
 
 abbrev pub statement_from : ℕ → ℕ → Function → Text → List Text → Option (Grown Item)
 statement_from most n f x [] = None

@@ -1,6 +1,10 @@
 pub mod Places
 pub mod Items
 pub mod ItemReading
+pub mod ItemParts
 pub mod Texts
 pub mod Laws
 pub mod Sorts
+pub mod Sections
+pub mod LineReading
+pub mod Told

@@ -1,5 +1,5 @@
 -- The parts of sorts.
-use Rattle.std.specs.Prelude.{ℕ, nat_le, if◌then◌else◌, Option, Some, None, List, [], ◌∷◌, length, codes}
+use Rattle.std.specs.Prelude.{nat_le, if◌then◌else◌, Option, Some, None, List, [], ◌∷◌, length, codes}
 use Rattle.spec_ast.specs.declared.raw.RawSort.{RawSort}
 use Rattle.spec_ast.specs.declared.raw.RawSort.TheVariants.{Named, Bits, Index}
 use Rattle.spec_expr.specs.Words.{Text, is_name}
