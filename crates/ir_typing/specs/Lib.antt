@@ -13,3 +13,4 @@ pub mod Knows
 pub mod Steps
 pub mod Twice
 pub mod Pairs
+pub mod Values

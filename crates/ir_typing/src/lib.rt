@@ -23,6 +23,7 @@ mod pairs;
 mod ranges;
 mod registers;
 mod scope;
+mod standins;
 mod tables;
 
 pub use access::is_pointer_access;
@@ -32,3 +33,4 @@ pub use held::Held;
 pub use intrinsics::{Form, Listed, intrinsic, is_overflow};
 pub use known::is_known;
 pub use scope::Scope;
+pub use standins::{global_fits, same_value};
