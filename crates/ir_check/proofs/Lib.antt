@@ -17,3 +17,7 @@ pub mod TallyLaws
 pub mod SourceLaws
 pub mod ItemLaws
 pub mod ArmLaws
+pub mod PartLaws
+pub mod Taken
+pub mod ArmOperands
+pub mod InstrLaws

@@ -22,12 +22,12 @@ mod tally;
 mod used;
 mod uses;
 
-pub use arms::counts_meet;
+pub use arms::arms_meet;
 pub use calls::{Calls, MOST, calls_in};
 pub use edges::block_edges;
 pub use faults::least;
 pub use heads::{global_fault, head_fault};
-pub use instrs::plain_reason;
+pub use instrs::{instr_reason, plain_reason};
 pub use order::{PlaceList, block_order};
 pub use sources::sources_of;
 pub use tally::{Tally, same_counts};
