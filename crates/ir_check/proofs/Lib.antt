@@ -21,3 +21,4 @@ pub mod PartLaws
 pub mod Taken
 pub mod ArmOperands
 pub mod InstrLaws
+pub mod BodyLaws

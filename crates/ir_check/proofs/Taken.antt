@@ -29,3 +29,13 @@ list_all_next p xs k x there = list_all_more p xs k x (get_below xs k x there) �
 
 pub all_from : {X : Type 0} (P : X → Type 0) (xs : List X) → ((x : X) → Contains xs x → P x) → All P xs
 all_from P xs each = All-weaker (Contains xs) P each xs (All-contains_itself xs)
+
+-- the same of a slice of the list
+pub slice_at : {A B : Type 0} (view : A → B) (xs ys : List A) (k : ℕ) (x : A) → ys ≡ xs → k < length ys → x ≡ slice_index_or ys k x → slice_get (map view xs) k ≡ Some (view x)
+slice_at {A} view xs ys k x same l e = subst (λ (zs : List A). slice_get (map view zs) k ≡ Some (view x)) same (code_at view ys k x l e)
+
+pub all_there : {A : Type 0} (P : A → Type 0) (xs : List A) (k : ℕ) (x : A) → slice_get xs k ≡ Some x → All P xs → P x
+all_there P xs k x there all = All-contains P xs x all (contains_at xs k x there)
+
+pub all_here : {A B : Type 0} (P : B → Type 0) (view : A → B) (xs : List A) (k : ℕ) (x : A) → k < length xs → x ≡ slice_index_or xs k x → All P (map view xs) → P (view x)
+all_here P view xs k x l e all = All-contains P (map view xs) (view x) all (contains_at (map view xs) k (view x) (code_at view xs k x l e))

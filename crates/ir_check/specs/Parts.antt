@@ -1,6 +1,8 @@
 -- The faults of a module part by part, as a walk over it sees them.
-use Rattle.std.specs.Prelude.{◌≡◌, ℕ, ◌<◌, Some, List, take, slice_get}
+use Rattle.std.specs.Prelude.{◌≡◌, ℕ, ◌<◌, true, Some, List, take, slice_get}
+use Rattle.std.specs.List.{All}
 use Rattle.ir_ast.specs.Program.{InstrView, BlockView, FunctionView, GlobalView, ModuleView}
+use Rattle.ir_type.specs.Shape.{keeps_notes}
 use Rattle.ir_typing.specs.Registers.{blocks_of}
 use Rattle.ir_check.specs.Rules.{GlobalFalls, FunctionFalls, InstrFalls}
 use Rattle.ir_check.specs.Least.{Faults, Either}
@@ -42,3 +44,10 @@ GlobalFaultsAt m = OfPlace (λ (e : List ℕ × GlobalView). ItemFaults (GlobalF
 
 abbrev pub PartFaults : ModuleView → Faults
 PartFaults m = Either (AmongAll (GlobalFaultsAt m)) (AmongAll (FunctionFaultsAt m))
+
+-- the instructions keep the notes of their productions
+abbrev pub AreNotedIn : List InstrView → Type 0
+AreNotedIn is = All (λ (i : InstrView). keeps_notes i.act ≡ true) is
+
+abbrev pub AreNoted : List BlockView → Type 0
+AreNoted blocks = All (λ (b : BlockView). AreNotedIn b.instrs) blocks

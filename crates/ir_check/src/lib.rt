@@ -7,6 +7,7 @@
 #![tactic(auto)]
 
 mod arms;
+mod body;
 mod calls;
 mod edges;
 mod faults;
@@ -23,6 +24,7 @@ mod used;
 mod uses;
 
 pub use arms::arms_meet;
+pub use body::body_fault;
 pub use calls::{Calls, MOST, calls_in};
 pub use edges::block_edges;
 pub use faults::least;
