@@ -1,4 +1,3 @@
-pub mod Facts
 pub mod Lengths
 pub mod Missing
 pub mod FirstFault
@@ -22,3 +21,5 @@ pub mod Taken
 pub mod ArmOperands
 pub mod InstrLaws
 pub mod BodyLaws
+pub mod FunctionLaws
+pub mod CheckedLaws

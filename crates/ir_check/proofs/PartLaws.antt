@@ -50,7 +50,7 @@ least_at P xs k x o there least =
 
 -- ---- lists
 
-split_at : {A : Type 0} (xs : List A) (k : ℕ) (x : A) → slice_get xs k ≡ Some x → (after : List A) × (xs ≡ take k xs ++ x ∷ after)
+pub split_at : {A : Type 0} (xs : List A) (k : ℕ) (x : A) → slice_get xs k ≡ Some x → (after : List A) × (xs ≡ take k xs ++ x ∷ after)
 split_at [] k x e = absurd cc
 split_at (y ∷ xs) zero x e = (xs, ap (λ z. z ∷ xs) (some_same y x e))
 split_at (y ∷ xs) (suc k) x e = let r = split_at xs k x e in (r.0, ap (λ ys. y ∷ ys) r.1)
@@ -67,7 +67,7 @@ behind_these (y ∷ xs) (b ∷ before) after x e =
     tail [] = []
     tail (z ∷ zs) = zs
 
-get_of : {A : Type 0} (xs : List A) (x : A) → Contains xs x → (k : ℕ) × (slice_get xs k ≡ Some x)
+pub get_of : {A : Type 0} (xs : List A) (x : A) → Contains xs x → (k : ℕ) × (slice_get xs k ≡ Some x)
 get_of xs x (k, below, e) = (k, get_at xs k x below e)
 
 -- ---- all items

@@ -9,3 +9,4 @@ pub mod Checked
 pub mod Tallies
 pub mod ItemFaults
 pub mod Parts
+pub mod Answers

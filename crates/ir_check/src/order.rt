@@ -53,7 +53,7 @@ fn has_first(nodes: &[u32]) -> bool
 }
 
 /// Whether an edge leads to node 0.
-fn leads_back(graph: &Graph) -> bool
+pub fn leads_back(graph: &Graph) -> bool
     ensures { MatchBool result (LeadsBack graph.now) (LeadsBack graph.now → ⊥) }
 {
     for node in 0..graph.len() {
