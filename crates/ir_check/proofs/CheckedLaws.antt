@@ -19,9 +19,12 @@ use Rattle.ir_typing.specs.Registers.{blocks_of, function_of}
 use Rattle.ir_check.specs.Paths.{targets_of, HasEdge, IsEntry, Use, uses, set_along, HasCall, body_of, weight, IsLength, FallsK10}
 use Rattle.ir_check.specs.Arms.{times, MeetsCounts, MeetsEdges, FallsK15}
 use Rattle.ir_check.specs.Graphs.{LeadsToCycle, SaysLength, name_of_entry}
-use Rattle.ir_check.specs.Answers.{find_body}
+use Rattle.ir_ast.specs.declared.fault.KernelFault.{KernelFault}
+use Rattle.ir_check.specs.Answers.{IsRefusal, find_body}
 use Rattle.ir_check.specs.ItemFaults.{AreCalls}
-use Rattle.ir_check.specs.Rules.{IsWellFormed}
+use Rattle.ir_check.specs.Rules.{FallsByCheck, IsWellFormed}
+use Rattle.ir_check.specs.Least.{IsLeast, AllFaults}
+use Rattle.ir_check.proofs.FirstFault.{least_is_free, least_is_first}
 use Rattle.ir_check.specs.Checked.{AreSet, AreCounted, AreLengths, IsChecked, AreOrders, length_at, AreTold, IsKept, OrdersFirst, IsKeptWhere}
 use Rattle.ir_check.proofs.Lengths.{same_weights, one_length}
 use Rattle.ir_check.proofs.NamedGraph.{mapped_at}
@@ -200,6 +203,12 @@ kept_where m orders cyclic lengths shaped count first calls formed = record {
 }
 
 -- ---- answers of the code
+
+pub refused : (m : ModuleView) (o : Option KernelFault) (f : KernelFault) → IsLeast (AllFaults (FallsByCheck m) m) o → o ≡ Some f → IsRefusal m f
+refused m o f least some = least_is_first (FallsByCheck m) m f (subst (IsLeast (AllFaults (FallsByCheck m) m)) some least)
+
+pub formed : (m : ModuleView) (o : Option KernelFault) → IsLeast (AllFaults (FallsByCheck m) m) o → o ≡ None → IsWellFormed m
+formed m o least none = least_is_free (FallsByCheck m) m (subst (IsLeast (AllFaults (FallsByCheck m) m)) none least)
 
 pub length_told : (o : Option ℕ) (n : ℕ) → o ≡ Some n → n ≡ unwrap_or o 0
 length_told o n e = sym (ap (λ (o : Option ℕ). unwrap_or o 0) e)

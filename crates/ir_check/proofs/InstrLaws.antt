@@ -62,8 +62,8 @@ pub phi_told : (m : ModuleView) (f : FunctionView) (types : Types) (over : Ty) (
     → listed ≡ arms → index ≡ map (λ (b : BlockView). b.name) (blocks_of f) → IsDistinct bytes_eq index → slice_get (blocks_of f) block ≡ Some b → IsDistinct bytes_eq (names_of (sites_of f))
     → is_known m f (phi over (view_arms arms)) ≡ true
     → (index ≡ names_of (named_blocks f) → place_of b.name (named_blocks f) ≡ Some block
-        → ((x : List ℕ) → Contains (map (λ arm. arm.1) (view_arms listed)) x → (q : ℕ) × (place_of x (named_blocks f) ≡ Some q))
-        → MatchBool meet (MeetsEdges types f b over (view_arms listed)) (MeetsEdges types f b over (view_arms listed) → ⊥))
+    → ((x : List ℕ) → Contains (map (λ arm. arm.1) (view_arms listed)) x → (q : ℕ) × (place_of x (named_blocks f) ≡ Some q))
+    → MatchBool meet (MeetsEdges types f b over (view_arms listed)) (MeetsEdges types f b over (view_arms listed) → ⊥))
     → found ≡ arms_reason meet → IsArmsReason (FallsK15 types f b (phi over (view_arms arms))) found
 phi_told m f types over arms listed index block b meet found same is differ there once known says found_is =
     arms_say (MeetsEdges types f b over (view_arms arms)) meet found found_is

@@ -106,7 +106,7 @@ module _ (m : ModuleView) where
       let q = get_of blocks b d in
       let k = behind_these b.instrs before after i e in
       let at : slice_get (blocks_of f) q.0 ≡ Some b =
-          ap (λ (o : Option (List BlockView)). slice_get (flat_map (λ (bs : List BlockView). bs) (option_to_list o)) q.0) body ∙ ap (λ (bs : List BlockView). slice_get bs q.0) (append-nil blocks) ∙ q.1 in
+      ap (λ (o : Option (List BlockView)). slice_get (flat_map (λ (bs : List BlockView). bs) (option_to_list o)) q.0) body ∙ ap (λ (bs : List BlockView). slice_get bs q.0) (append-nil blocks) ∙ q.1 in
       inr (p.0, ((x, f), p.1, inr (q.0, (b, at, (length before, (i, k.0, (rule, is, line, subst (λ is. InstrFalls m f b is i rule) (sym k.1) falls)))))))
 
   -- the least fault of a walk is that of all items
