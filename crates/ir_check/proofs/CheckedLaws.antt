@@ -25,10 +25,11 @@ use Rattle.ir_check.specs.ItemFaults.{AreCalls}
 use Rattle.ir_check.specs.Rules.{FallsByCheck, IsWellFormed}
 use Rattle.ir_check.specs.Least.{IsLeast, AllFaults}
 use Rattle.ir_check.proofs.FirstFault.{least_is_free, least_is_first}
-use Rattle.ir_check.specs.Checked.{AreSet, AreCounted, AreLengths, IsChecked, AreOrders, length_at, AreTold, IsKept, OrdersFirst, IsKeptWhere}
+use Rattle.ir_check.specs.Checked.{IsForward, AreSet, AreCounted, AreLengths, IsChecked, AreOrders, length_at, AreTold, IsKept, OrdersFirst, IsKeptWhere}
 use Rattle.ir_check.proofs.Lengths.{same_weights, one_length}
 use Rattle.ir_check.proofs.NamedGraph.{mapped_at}
-use Rattle.ir_check.proofs.SiteLaws.{contains_at}
+use Rattle.ir_check.proofs.SiteLaws.{contains_at, get_at}
+use Rattle.std.proofs.lemmas.Option.{get_or_from_slice_get}
 use Rattle.ir_check.proofs.PartLaws.{split_at, get_of}
 use Rattle.ir_check.proofs.FunctionLaws.{function_there}
 
@@ -210,19 +211,22 @@ refused m o f least some = least_is_first (FallsByCheck m) m f (subst (IsLeast (
 pub formed : (m : ModuleView) (o : Option KernelFault) → IsLeast (AllFaults (FallsByCheck m) m) o → o ≡ None → IsWellFormed m
 formed m o least none = least_is_free (FallsByCheck m) m (subst (IsLeast (AllFaults (FallsByCheck m) m)) none least)
 
-pub length_told : (o : Option ℕ) (n : ℕ) → o ≡ Some n → n ≡ unwrap_or o 0
-length_told o n e = sym (ap (λ (o : Option ℕ). unwrap_or o 0) e)
+pub order_told : (m : ModuleView) (orders : List (List ℕ)) (lengths : List (Option ℕ)) → IsKept m orders lengths → (p : ℕ) (order : List ℕ) (e : List ℕ × FunctionView) → order ≡ slice_index_or orders p order
+    → slice_get m.functions p ≡ Some e → IsForward e.1 order
+order_told m orders lengths kept p order e is there =
+    let below = get_below m.functions p e there in
+    let count = kept.count in
+    let inside : p < length orders = omega arith in
+    subst (IsForward e.1) (get_or_from_slice_get orders p order [] (get_at orders p order inside (sym is))) (kept.orders_are p e there)
 
-pub no_length_told : (o : Option ℕ) → o ≡ None → 0 ≡ unwrap_or o 0
-no_length_told o e = sym (ap (λ (o : Option ℕ). unwrap_or o 0) e)
-
-pub found_body : (functions : List (List ℕ × FunctionView)) (x : List ℕ) (p : ℕ) (f : FunctionView) (b : Bool) → place_of x functions ≡ Some p → slice_get functions p ≡ Some (x, f) → b ≡ is_some f.body
+pub found_body : (functions : List (List ℕ × FunctionView)) (x y : List ℕ) (p : ℕ) (f : FunctionView) (b : Bool) → place_of x functions ≡ Some p → slice_get functions p ≡ Some (y, f) → b ≡ is_some f.body
     → (if b then Some p else None) ≡ find_body functions x
-found_body functions x p f b place there is =
+found_body functions x y p f b place there is =
     let s = at_place functions x p place in
-    let row : FunctionView → List ℕ × FunctionView = λ f. (x, f) in
+    let mine : List ℕ × FunctionView = (y, f) in
+    let found : List ℕ × FunctionView = (x, s.0) in
     let second : List ℕ × FunctionView → FunctionView = λ e. e.1 in
-    let same : f ≡ s.0 = ap second (some_same (row f) (row s.0) (sym there ∙ s.1.there)) in
+    let same : f ≡ s.0 = ap second (some_same mine found (sym there ∙ s.1.there)) in
     let body : FunctionView → Option (List BlockView) = λ f. f.body in
     ap (λ t. if t then Some p else None) (is ∙ ap (λ (f : FunctionView). is_some f.body) same ∙ ap (λ (o : Option FunctionView). is_some (option_and_then body o)) (sym s.1.found))
     ∙ ap (λ (o : Option ℕ). if is_some (option_and_then body (entry_of x functions)) then o else None) (sym place)

@@ -1,6 +1,6 @@
 //! A kernel that was checked.
 
-ghost use Rattle.std.specs.Prelude.{◌≡◌, ◌<◌, ◌^◌, ℕ, List, Some, length, slice_get, IfOk};
+ghost use Rattle.std.specs.Prelude.{◌≡◌, ◌<◌, ◌^◌, ℕ, List, Some, None, is_some, if◌then◌else◌, length, slice_get, IfOk};
 ghost use Rattle.ir_ast.specs.Small.{IsSmall};
 ghost use Rattle.ir_ast.specs.Program.{FunctionView};
 ghost use Rattle.ir_ast.specs.ProgramView.{view_entries, view_function, view_module};
@@ -14,7 +14,7 @@ ghost use Rattle.ir_check.specs.Checked as definition;
 use crate::heads::length_at;
 use crate::kernel::{KernelCheck, kernel_check};
 use crate::order::PlaceList;
-use ir_ast::{FunctionTable, KernelStop, Module, Name};
+use ir_ast::{Function, FunctionTable, KernelStop, Module, Name};
 use std::alloc::Global;
 use std::marker::Model;
 
@@ -46,19 +46,27 @@ impl Model for Checked {
     ghost invariant = { λ c. IsSmall c.kernel × IsKept (view_module c.kernel) c.orders.items c.lengths.items };
 }
 
+/// Whether a function has a body.
+fn has_body(function: &Function) -> bool
+    ensures { result ≡ is_some (view_function function.now).body }
+{
+    function.body.is_some()
+}
+
+/// A place, where this is so.
+fn place_where(holds: bool, place: u32) -> Option<u32>
+    ensures { result ≡ (if holds then Some place else None) }
+{
+    if holds { Some(place) } else { None }
+}
+
 /// The place of the function of a name, where it has a body.
 fn body_place(functions: &FunctionTable, name: &Name) -> Option<u32>
     requires { length functions.now < 2 ^ 32 }
     ensures { result ≡ find_body (view_entries view_function functions.now) name.now }
 {
     match functions.get(name) {
-        Some(place) => {
-            if functions.at(place).body.is_some() {
-                Some(place)
-            } else {
-                None
-            }
-        }
+        Some(place) => place_where(has_body(functions.at(place)), place),
         None => None,
     }
 }
