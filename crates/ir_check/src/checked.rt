@@ -1,6 +1,6 @@
 //! A kernel that was checked.
 
-ghost use Rattle.std.specs.Prelude.{◌≡◌, ◌<◌, ◌^◌, ℕ, List, Some, None, is_some, if◌then◌else◌, length, slice_get, IfOk};
+ghost use Rattle.std.specs.Prelude.{◌≡◌, ◌<◌, ◌^◌, ℕ, List, Some, None, is_some, if◌then◌else◌, length, slice_get, IfOk, OnOk};
 ghost use Rattle.ir_ast.specs.Small.{IsSmall};
 ghost use Rattle.ir_ast.specs.Program.{FunctionView};
 ghost use Rattle.ir_ast.specs.ProgramView.{view_entries, view_function, view_module};
@@ -129,7 +129,7 @@ pub fn check(alloc: Global, kernel: Module) -> Result<Checked, KernelStop>
     requires shaped { IsShaped (view_module kernel) }
     requires lined { IsLined (view_module kernel) }
     ensures checked { IfOk result (λ c. c ≡ kernel) }
-    ensures well_formed { IfOk result (λ c. IsWellFormed (view_module kernel)) }
+    ensures well_formed { OnOk result (IsWellFormed (view_module kernel)) }
     ensures refused { OnRefusal result (IsRefusal (view_module kernel)) }
 {
     let found = kernel_check(alloc, &kernel)?;

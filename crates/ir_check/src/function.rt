@@ -4,7 +4,7 @@
 //! an order of its blocks where they have one. The head of a function comes before its instructions, so a head that falls under a rule
 //! spares the look at the body.
 
-ghost use Rattle.std.specs.Prelude.{◌≡◌, ◌<◌, ◌^◌, Some, length, slice_get, IfOk, MatchBool};
+ghost use Rattle.std.specs.Prelude.{◌≡◌, ◌<◌, ◌^◌, Some, length, slice_get, IfOk};
 ghost use Rattle.ir_ast.specs.Small.{IsSmall};
 ghost use Rattle.ir_ast.specs.ProgramView.{view_module, view_function};
 ghost use Rattle.hk_graph.specs.Sorted.{IsOrder};
@@ -13,7 +13,7 @@ ghost use Rattle.ir_type.specs.Shape.{IsShaped, IsLined};
 ghost use Rattle.ir_whole.specs.Numbers.{IsFor};
 ghost use Rattle.ir_typing.specs.Registers.{blocks_of};
 ghost use Rattle.ir_check.specs.Paths.{AreFewBlocks, FallsK10};
-ghost use Rattle.ir_check.specs.Graphs.{block_graph, LeadsBack, HasNoOrder};
+ghost use Rattle.ir_check.specs.Graphs.{block_graph};
 ghost use Rattle.ir_check.specs.Least.{IsLeast, Either};
 ghost use Rattle.ir_check.specs.ItemFaults.{AreCalls};
 ghost use Rattle.ir_check.specs.Parts.{HeadFaults, BodyFaults, FunctionFaultsAt, AreNoted};
@@ -23,8 +23,8 @@ use crate::body::body_fault;
 use crate::calls::Calls;
 use crate::edges::{block_edges, blocks_of};
 use crate::heads::head_fault;
-use crate::order::{PlaceList, leads_back};
-use hk_flow::{forward, is_acyclic};
+use crate::order::{PlaceList, has_order};
+use hk_flow::forward;
 use hk_graph::{Graph, Order, sort};
 use ir_ast::{Function, KernelFault, Module};
 use ir_whole::TypeNumbers;
@@ -36,17 +36,6 @@ use std::alloc::{AllocError, Global};
 pub struct FunctionCheck {
     pub order: PlaceList,
     pub fault: Option<KernelFault>,
-}
-
-/// Whether the nodes of a graph, of which this is an order, have one in which each edge goes forward and none to node 0.
-fn has_order(graph: &Graph, order: &Order) -> bool
-    requires { IsOrder graph.now order.now.nodes.items order.now.cyclic.items }
-    ensures { MatchBool result (AreClear order.now.cyclic.items × (LeadsBack graph.now → ⊥)) (HasNoOrder graph.now) }
-{
-    if leads_back(graph) {
-        return false;
-    }
-    is_acyclic(order)
 }
 
 /// The least fault of a function whose blocks have no order: that of its head.
