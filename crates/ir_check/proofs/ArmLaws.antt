@@ -21,7 +21,7 @@ use Rattle.ir_check.proofs.EdgeLaws.{edges_are}
 use Rattle.ir_check.proofs.UseLaws.{among_within}
 use Rattle.ir_check.proofs.NamedGraph.{name_of_place, targets_at, entry_at, graph_length}
 
-bytes_same : (x : List ℕ) → bytes_eq x x ≡ true
+pub bytes_same : (x : List ℕ) → bytes_eq x x ≡ true
 bytes_same x = (bytes_eq-Decides x x).1 refl
 
 count-map : {A B : Type 0} (p : B → Bool) (g : A → B) (xs : List A) → count_by (λ a. p (g a)) xs ≡ count_by p (map g xs)
@@ -36,6 +36,25 @@ module _ (f : FunctionView) (distinct : IsDistinct bytes_eq (names_of (named_blo
 
   same_name : (x y : List ℕ) (q : ℕ) → at x ≡ Some q → at y ≡ Some q → x ≡ y
   same_name x y q a b = sym (name_of_place block_targets (named_blocks f) distinct x q a) ∙ name_of_place block_targets (named_blocks f) distinct y q b
+
+  -- a place and a name are the same test
+  pub same_test : (x n : List ℕ) (q k : ℕ) → at x ≡ Some q → at n ≡ Some k → nat_eq q k ≡ bytes_eq x n
+  same_test x n q k a b = by (cases_Bool (bytes_eq x n)) (cases_Bool (nat_eq q k))
+    where
+      same_some : (k j : ℕ) → Some k ≡ Some j → k ≡ j
+      same_some k j e = cc
+
+      itself : (j : ℕ) → nat_eq j j ≡ true
+      itself j = grind arith
+
+      by : (bytes_eq x n ≡ true) ⊎ (bytes_eq x n ≡ false) → (nat_eq q k ≡ true) ⊎ (nat_eq q k ≡ false) → nat_eq q k ≡ bytes_eq x n
+      by (inl e) t =
+          let same = same_some q k (sym a ∙ ap at ((bytes_eq-Decides x n).0 e) ∙ b) in
+          ap (nat_eq q) (sym same) ∙ itself q ∙ sym e
+      by (inr e) (inr t) = t ∙ sym e
+      by (inr e) (inl t) =
+          let one = same_name x n q a (subst (λ j. at n ≡ Some j) (sym (eqb-true q k t)) b) in
+          t ∙ sym (subst (λ y. bytes_eq x y ≡ true) one (bytes_same x))
 
   -- one name more
   one_place : (x n : List ℕ) (q : ℕ) (o : Option ℕ) → at x ≡ Some q → at n ≡ o → count_by (nat_eq q) (option_to_list o) ≡ cond (bytes_eq x n) 1 0
@@ -163,7 +182,7 @@ module _ (f : FunctionView) (distinct : IsDistinct bytes_eq (names_of (named_blo
       counts_say true e = met (as_often places sources (sym e))
       counts_say false e = λ meets. not_as_often places sources (sym e) (met_all meets)
 
-names_viewed : (arms : List (Operand × List ℕ)) → map (λ arm. arm.1) (view_arms arms) ≡ map (λ arm. arm.1) arms
+pub names_viewed : (arms : List (Operand × List ℕ)) → map (λ arm. arm.1) (view_arms arms) ≡ map (λ arm. arm.1) arms
 names_viewed [] = refl
 names_viewed (a ∷ arms) = ap (λ xs. a.1 ∷ xs) (names_viewed arms)
 

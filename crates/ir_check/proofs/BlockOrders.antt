@@ -79,17 +79,3 @@ module _ (f : FunctionView) (distinct : IsDistinct bytes_eq (names_of (named_blo
     within = All-weaker (λ k. k < length (block_graph f)) (λ k. k < length (blocks_of f)) (λ k l. subst (λ n. k < n) count l) order o.forward.within;
     forward = λ before after k j a b is at to e. o.forward.forward before after k j is (edge_of_blocks k j a b at to e);
   }
-
--- what an order of the graph, or the want of one, says of the function
-pub says_forward : (f : FunctionView) (graph : List (List ℕ)) (o : Option (List ℕ)) → graph ≡ block_graph f → IsDistinct bytes_eq (names_of (named_blocks f))
-    → MatchOption o (HasNoOrder graph) (IsOnward graph) → IfSome o (IsForward f)
-says_forward f graph None is d h = tt
-says_forward f graph (Some order) is d h = onward_forward f d order (subst (λ g. IsOnward g order) is h)
-
-pub says_cycle : (f : FunctionView) (graph : List (List ℕ)) (o : Option (List ℕ)) → graph ≡ block_graph f → IsDistinct bytes_eq (names_of (named_blocks f))
-    → MatchOption o (HasNoOrder graph) (IsOnward graph) → (o ≡ None ↔ FallsK10 f)
-says_cycle f graph None is d h = (λ e. no_order_falls f d (subst HasNoOrder is h), λ k. refl)
-says_cycle f graph (Some order) is d h = (λ e. absurd (clash e), λ k. absurd (onward_falls f d order (subst (λ g. IsOnward g order) is h) k))
-  where
-    clash : Some order ≡ None → ⊥
-    clash e = cc

@@ -14,7 +14,7 @@ use Rattle.ir_typing.specs.Fits.{Scope, scope_by, scope_of, slot_at, is_phi, ins
 use Rattle.ir_typing.specs.Known.{is_known}
 use Rattle.ir_typing.specs.Access as access
 use Rattle.hk_graph.specs.Sorted.{flag_of}
-use Rattle.hk_graph.specs.Walks.{IsOnCycle}
+use Rattle.hk_graph.specs.Walks.{Leads, IsOnCycle}
 use Rattle.hk_flow.specs.Sums.{told}
 use Rattle.ir_check.specs.Graphs.{SaysCalls, SaysLength, name_of_entry}
 use Rattle.ir_check.specs.Paths.{HasCall, IsLength, FallsK10, FallsK12}
@@ -22,7 +22,7 @@ use Rattle.ir_check.specs.Rules.{IsPointerAccess, GlobalFalls, FunctionFalls, In
 use Rattle.ir_check.specs.Least.{reason_of, number, IsUpTo, IsLeast}
 use Rattle.ir_check.specs.ItemFaults.{IsLeastReason, IsLeastPlain, ItemFaults, IsAsked, on_line, AreCalls, is_long, head_reason, global_reason, known_reason}
 use Rattle.ir_check.proofs.FirstFault.{numbered}
-use Rattle.ir_check.proofs.Lengths.{one_length}
+use Rattle.ir_check.proofs.Lengths.{one_length, reaches_no_cycle}
 use Rattle.ir_check.proofs.NamedGraph.{mapped_at}
 
 -- the least rule of an item is its least fault
@@ -101,7 +101,7 @@ misfit_says true test e = λ f. clash (e ∙ f)
 misfit_says false test e = sym e
 
 long_says : (m : ModuleView) (name : List ℕ) (o : Option ℕ) (p : ℕ) → name_of_entry m.functions p ≡ name → SaysLength m o p → Says (is_long o) ((n : ℕ) × IsLength m name n × (100000 < n))
-long_says m name None p is says = λ f. says f.0 (subst (λ x. IsLength m x f.0) (sym is) f.1)
+long_says m name None p is (g, leads, cycle) = λ f. reaches_no_cycle m name f.0 f.1 g (subst (λ x. Leads (HasCall m) x g) is leads) cycle
 long_says m name (Some n) p is (t, total, cut) = by (cases_Bool (nat_lt 100000 n))
   where
     mine : IsLength m name t

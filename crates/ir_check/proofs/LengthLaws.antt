@@ -14,11 +14,11 @@ use Rattle.ir_type.specs.Cycles.{places_of}
 use Rattle.ir_type.proofs.Places.{at_place, no_place, get_below}
 use Rattle.ir_typing.specs.Registers.{blocks_of, function_of}
 use Rattle.ir_check.specs.Paths.{HasCall, body_of, weight, IsLength}
+use Rattle.ir_check.specs.Graphs as named
 use Rattle.ir_check.specs.Graphs.{NameLeads, called_by, call_graph, name_of_entry, own_of, SaysLength}
 use Rattle.ir_check.proofs.EdgeLaws.{walks_by, cycle_by, call_to, call_from}
 use Rattle.ir_check.proofs.NamedGraph.{graph_length, entry_at, targets_at, mapped_at, walk_names, walk_places, cycle_names}
 use Rattle.ir_check.proofs.OrderFacts.{has_node}
-use Rattle.ir_check.proofs.Lengths.{reaches_no_cycle}
 
 -- ---- sums
 
@@ -119,15 +119,15 @@ module _ (m : ModuleView) (distinct : IsDistinct bytes_eq (names_of m.functions)
           by None e = ap (λ o. sum (map (weight (by_name m.functions total.total_of)) (flat_map (λ (b : BlockView). b.instrs) (flat_map blocks_of (option_to_list o))))) (sym (no_place m.functions g e))
           by (Some q) e = at_place_of g q e (reached g q e led)
 
-  -- and what leads to a cycle has none
-  pub cycle_no_length : LeadsToCycle (targets_of (call_graph m)) p → (n : ℕ) → IsLength m (name_of_entry m.functions p) n → ⊥
-  cycle_no_length (c, (left, w), cycle) n l =
+  -- and what leads to a cycle by places does so by names
+  pub cycle_leads : LeadsToCycle (targets_of (call_graph m)) p → named.LeadsToCycle m (name_of_entry m.functions p)
+  cycle_leads (c, (left, w), cycle) =
       let step = walk_names called_by m.functions distinct left p c below w in
-      let node : c < length m.functions = on_cycle cycle in
-      let names = cycle_by (NameLeads called_by m.functions) (HasCall m) (call_from m) (name_of_entry m.functions c) (cycle_names called_by m.functions distinct c node cycle) in
-      reaches_no_cycle m (name_of_entry m.functions p) n l (name_of_entry m.functions c)
-      (map (name_of_entry m.functions) left, walks_by (NameLeads called_by m.functions) (HasCall m) (call_from m) (map (name_of_entry m.functions) left) (name_of_entry m.functions p) (name_of_entry m.functions c) step)
-      names
+      let node : c < length m.functions = on_cycle cycle in (
+        name_of_entry m.functions c,
+        (map (name_of_entry m.functions) left, walks_by (NameLeads called_by m.functions) (HasCall m) (call_from m) (map (name_of_entry m.functions) left) (name_of_entry m.functions p) (name_of_entry m.functions c) step),
+        cycle_by (NameLeads called_by m.functions) (HasCall m) (call_from m) (name_of_entry m.functions c) (cycle_names called_by m.functions distinct c node cycle),
+      )
     where
       on_cycle : IsOnCycle (HasEdge (call_graph m)) c → c < length m.functions
       on_cycle (b, r, l) = subst (λ n. c < n) (graph_length called_by m.functions) (has_node (call_graph m) c b r)
@@ -136,5 +136,5 @@ module _ (m : ModuleView) (distinct : IsDistinct bytes_eq (names_of m.functions)
   says_length graph own o is mine h = by o (subst (λ os. IsSum (call_graph m) os 100001 p o) mine (subst (λ g. IsSum g own 100001 p o) is h))
     where
       by : (o : Option ℕ) → IsSum (call_graph m) (own_of m.functions) 100001 p o → SaysLength m o p
-      by None h = cycle_no_length h
+      by None h = cycle_leads h
       by (Some n) (clear, t, total, cut) = (t, total_length t total, cut)

@@ -77,7 +77,7 @@ same_sum E F (x ∷ xs) all =
     lift_below : {k n : ℕ} → k < n → suc k < suc n
     lift_below l = omega arith
 
-same_weights : (E F : List ℕ → ℕ) (is : List InstrView) → ((h : List ℕ) → Contains (flat_map (λ i. callees i.act) is) h → E h ≡ F h)
+pub same_weights : (E F : List ℕ → ℕ) (is : List InstrView) → ((h : List ℕ) → Contains (flat_map (λ i. callees i.act) is) h → E h ≡ F h)
     → sum (map (weight E) is) ≡ sum (map (weight F) is)
 same_weights E F [] all = refl
 same_weights E F (i ∷ is) all =

@@ -1,4 +1,3 @@
-pub mod Facts
 pub mod Lengths
 pub mod Missing
 pub mod FirstFault
@@ -17,3 +16,10 @@ pub mod TallyLaws
 pub mod SourceLaws
 pub mod ItemLaws
 pub mod ArmLaws
+pub mod PartLaws
+pub mod Taken
+pub mod ArmOperands
+pub mod InstrLaws
+pub mod BodyLaws
+pub mod FunctionLaws
+pub mod CheckedLaws

@@ -3,7 +3,7 @@ use Rattle.std.specs.Prelude.{◌≡◌, ℕ, ◌<◌, ◌⊎◌, Bool, true, fa
 use Rattle.std.specs.List.{Contains}
 use Rattle.ir_ast.specs.Program.{BlockView, FunctionView, ModuleView}
 use Rattle.ir_ast.specs.Table.{names_of}
-use Rattle.hk_graph.specs.Walks.{HasEdge, IsOnCycle}
+use Rattle.hk_graph.specs.Walks.{Leads, HasEdge, IsOnCycle}
 use Rattle.hk_flow.specs.Onward.{IsForward}
 use Rattle.ir_type.specs.Names.{entry_of}
 use Rattle.ir_type.specs.Rows.{targets, callees}
@@ -64,9 +64,13 @@ SaysCalls m false p = IsOnCycle (HasCall m) (name_of_entry m.functions p) → �
 abbrev pub own_of : List (List ℕ × FunctionView) → List ℕ
 own_of functions = map (λ e. length (flat_map (λ b. b.instrs) (blocks_of e.1))) functions
 
--- the expanded length of the function at the place, cut at one more than the limit, or nothing where it has none
+-- calls lead from the function to a cycle, so it has no length
+abbrev pub LeadsToCycle : ModuleView → List ℕ → Type 0
+LeadsToCycle m f = (g : List ℕ) × Leads (HasCall m) f g × IsOnCycle (HasCall m) g
+
+-- the expanded length of the function at the place, cut at one more than the limit, or nothing where calls lead to a cycle
 abbrev pub SaysLength : ModuleView → Option ℕ → ℕ → Type 0
-SaysLength m None p = (n : ℕ) → IsLength m (name_of_entry m.functions p) n → ⊥
+SaysLength m None p = LeadsToCycle m (name_of_entry m.functions p)
 SaysLength m (Some n) p = (t : ℕ) × IsLength m (name_of_entry m.functions p) t × (n ≡ min t 100001)
 
 -- ---- orders

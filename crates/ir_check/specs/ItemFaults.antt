@@ -55,6 +55,14 @@ abbrev pub IsLeastPlain : (Rule → Type 0) → Option KernelReason → Type 0
 IsLeastPlain Falls None = (q : Rule) → Falls q → q ≡ K15
 IsLeastPlain Falls (Some s) = IsLeastReason Falls (Some s)
 
+-- the rule of arms, where it falls under that one
+abbrev pub IsArmsReason : Type 0 → Option KernelReason → Type 0
+IsArmsReason Falls None = Falls → ⊥
+IsArmsReason Falls (Some s) = (s ≡ reason.K15) × Falls
+
+abbrev pub arms_reason : Bool → Option KernelReason
+arms_reason meet = if meet then None else Some reason.K15
+
 -- what is asked of the function of an instruction, and of the scope that it is judged by
 pub record IsAsked (m : ModuleView) (f : FunctionView) (types : Types) (scoped : FunctionView) : Type 0 where
   pub types_are : types ≡ m.types

@@ -8,3 +8,5 @@ pub mod Least
 pub mod Checked
 pub mod Tallies
 pub mod ItemFaults
+pub mod Parts
+pub mod Answers

@@ -32,7 +32,7 @@ fn flag_at(flags: &[bool], place: u32) -> bool
 }
 
 /// The length of the function at a place, where it has one.
-fn length_at(lengths: &[Option<u32>], place: u32) -> Option<u32>
+pub fn length_at(lengths: &[Option<u32>], place: u32) -> Option<u32>
     ensures { result ≡ told lengths.now place }
 {
     match lengths.get(place as usize) {

@@ -1,23 +1,31 @@
 //! The faults of an instruction.
 
-ghost use Rattle.std.specs.Prelude.{◌≡◌, ◌<◌, true, Some, length, take, slice_get, IfOk};
-ghost use Rattle.std.specs.List.{list_all};
-ghost use Rattle.ir_ast.specs.Program.{BlockView, FunctionView};
+ghost use Rattle.std.specs.Prelude.{◌≡◌, ◌<◌, true, Some, length, take, slice_get, bytes_eq, IfOk};
+ghost use Rattle.std.specs.List.{list_all, IsDistinct};
+ghost use Rattle.ir_ast.specs.Program.{phi, BlockView, FunctionView};
 ghost use Rattle.ir_ast.specs.Small.{IsSmall};
-ghost use Rattle.ir_ast.specs.ProgramView.{view_module, view_op, view_instr};
+ghost use Rattle.ir_ast.specs.Table.{names_of};
+ghost use Rattle.ir_ast.specs.View.{view_type};
+ghost use Rattle.ir_ast.specs.ProgramView.{view_module, view_op, view_instr, view_arms};
 ghost use Rattle.ir_type.specs.Shape.{keeps_notes};
 ghost use Rattle.ir_typing.specs.Registers.{blocks_of};
 ghost use Rattle.ir_typing.specs.Fits.{is_phi};
 ghost use Rattle.ir_typing.specs.Known as names;
 ghost use Rattle.ir_typing.specs.Scoped as scoped;
 ghost use Rattle.ir_typing.specs.Scoped.{IsTyped};
+ghost use Rattle.ir_whole.specs.Numbers.{IsFor};
+ghost use Rattle.ir_check.specs.Paths.{AreFewBlocks};
+ghost use Rattle.ir_check.specs.Arms.{FallsK15};
+ghost use Rattle.ir_check.specs.Sites.{sites_of, AreSources};
 ghost use Rattle.ir_check.specs.Rules.{InstrFalls};
 ghost use Rattle.ir_check.specs.Used.{function_in};
 ghost use Rattle.ir_check.specs.ItemFaults as definition;
-ghost use Rattle.ir_check.specs.ItemFaults.{IsLeastPlain, IsAsked};
+ghost use Rattle.ir_check.specs.ItemFaults.{IsLeastReason, IsLeastPlain, IsArmsReason, IsAsked};
 
+use crate::arms::arms_meet;
+use crate::tally::Tally;
 use crate::uses::Uses;
-use ir_ast::{Instr, KernelReason, Module};
+use ir_ast::{ArmList, Instr, IrType, KernelReason, Module, Op};
 use ir_typing::{Scope, instr_fits, is_known, is_pointer_access};
 use ir_whole::TypeNumbers;
 use std::alloc::{AllocError, Global};
@@ -92,5 +100,100 @@ pub fn plain_reason(
         )
     } else {
         Ok(Some(KernelReason::K8))
+    }
+}
+
+/// The rule of arms, where they do not meet the edges.
+fn arms_reason(meet: bool) -> Option<KernelReason>
+    ensures { result ≡ definition.arms_reason meet }
+{
+    if meet { None } else { Some(KernelReason::K15) }
+}
+
+/// The rule of arms, where the arms of a phi, whose names are known, fall under it. The phi stands in a block of which these are the
+/// sources.
+fn phi_reason(
+    alloc: Global,
+    values: &mut TypeNumbers,
+    kernel: &Module,
+    uses: &Uses,
+    sources: &Tally,
+    block: u32,
+    over: &IrType,
+    arms: &ArmList,
+) -> Result<Option<KernelReason>, AllocError>
+    requires small { IsSmall kernel.now }
+    requires few { AreFewBlocks (function_in uses.now) }
+    requires values { IsFor (view_module kernel.now).types values.old }
+    requires sources { AreSources (function_in uses.now) block sources.now }
+    ensures arms { (b : BlockView) → slice_get (blocks_of (function_in uses.now)) block ≡ Some b → IsDistinct bytes_eq (names_of (sites_of (function_in uses.now))) → names.is_known (view_module kernel.now) (function_in uses.now) (phi (view_type over.now) (view_arms arms.now.items.items)) ≡ true → IfOk result (IsArmsReason (FallsK15 (view_module kernel.now).types (function_in uses.now) b (phi (view_type over.now) (view_arms arms.now.items.items)))) }
+    ensures values { IsFor (view_module kernel.now).types values.new }
+{
+    let index = uses.blocks();
+    index.len();
+    let arms = arms.items.as_slice();
+    let meet = arms_meet(alloc, values, &kernel.types, over, index, sources, arms)?;
+    Ok(arms_reason(meet))
+}
+
+/// The rule of arms, where an instruction whose names are known falls under it.
+fn reason_of_arms(
+    alloc: Global,
+    values: &mut TypeNumbers,
+    kernel: &Module,
+    uses: &Uses,
+    sources: &Tally,
+    block: u32,
+    op: &Op,
+) -> Result<Option<KernelReason>, AllocError>
+    requires small { IsSmall kernel.now }
+    requires few { AreFewBlocks (function_in uses.now) }
+    requires values { IsFor (view_module kernel.now).types values.old }
+    requires sources { AreSources (function_in uses.now) block sources.now }
+    ensures arms { (b : BlockView) → slice_get (blocks_of (function_in uses.now)) block ≡ Some b → IsDistinct bytes_eq (names_of (sites_of (function_in uses.now))) → names.is_known (view_module kernel.now) (function_in uses.now) (view_op op.now) ≡ true → IfOk result (IsArmsReason (FallsK15 (view_module kernel.now).types (function_in uses.now) b (view_op op.now))) }
+    ensures values { IsFor (view_module kernel.now).types values.new }
+{
+    match op {
+        Op::Phi { over, arms } => {
+            phi_reason(alloc, values, kernel, uses, sources, block, over, arms)
+        }
+        _ => Ok(None),
+    }
+}
+
+/// The least rule that an instruction falls under. `numbers` serve the scope, and `values` the operands of phis.
+pub fn instr_reason(
+    alloc: Global,
+    numbers: &mut TypeNumbers,
+    values: &mut TypeNumbers,
+    kernel: &Module,
+    scope: &Scope,
+    uses: &Uses,
+    sources: &Tally,
+    block: u32,
+    place: usize,
+    phis: bool,
+    instr: &Instr,
+) -> Result<Option<KernelReason>, AllocError>
+    requires small { IsSmall kernel.now }
+    requires typed { IsTyped numbers.old scope.now }
+    requires values { IsFor (view_module kernel.now).types values.old }
+    requires noted { keeps_notes (view_op instr.now.op) ≡ true }
+    requires asked { IsAsked (view_module kernel.now) (function_in uses.now) (scoped.types_in scope.now) (scoped.function_in scope.now) }
+    requires block { block < length (blocks_of (function_in uses.now)) }
+    requires sources { AreSources (function_in uses.now) block sources.now }
+    ensures least { (b : BlockView) → slice_get (blocks_of (function_in uses.now)) block ≡ Some b → phis ≡ list_all (λ i. is_phi i.act) (take place b.instrs) → IfOk result (IsLeastReason (InstrFalls (view_module kernel.now) (function_in uses.now) b (take place b.instrs) (view_instr instr.now))) }
+    ensures typed { IsTyped numbers.new scope.now }
+    ensures values { IsFor (view_module kernel.now).types values.new }
+{
+    let plain = plain_reason(
+        alloc, numbers, kernel, scope, uses, block, place, phis, instr,
+    )?;
+    match plain {
+        Some(reason) => Ok(Some(reason)),
+        None => {
+            let arms = reason_of_arms(alloc, values, kernel, uses, sources, block, &instr.op)?;
+            Ok(arms)
+        }
     }
 }

@@ -1,18 +1,22 @@
-//! Checks of whole kernels: which paths return, which functions call themselves, how long they are with their calls, and which uses no
-//! definition stands before.
+//! Checks of whole kernels.
 //!
-//! Stands on the trees, on what they spell, on orders of graphs and on what flows along them. A module that was read comes in; the order
-//! of a function's blocks, the cycles and lengths of calls and the uses that fall go out. Its definitions say which items of a module
-//! fall under each check, and when a module is well formed.
+//! Stands on the trees, on names and types of operands, on orders of graphs and on what flows along them. A module that was read comes
+//! in; a checked kernel goes out, with an order of each function's blocks and its expanded length, or the first item that falls under a
+//! check, with the least of its rules. The definitions say which items of a module fall under each check, and when a module is well
+//! formed.
 #![tactic(auto)]
 
 mod arms;
+mod body;
 mod calls;
+mod checked;
 mod edges;
 mod faults;
+mod function;
 mod heads;
 mod index;
 mod instrs;
+mod kernel;
 mod order;
 mod reach;
 mod site_table;
@@ -22,16 +26,8 @@ mod tally;
 mod used;
 mod uses;
 
-pub use arms::counts_meet;
-pub use calls::{Calls, MOST, calls_in};
-pub use edges::block_edges;
-pub use faults::least;
-pub use heads::{global_fault, head_fault};
-pub use instrs::plain_reason;
-pub use order::{PlaceList, block_order};
-pub use sources::sources_of;
-pub use tally::{Tally, same_counts};
-pub use uses::Uses;
+pub use checked::{Checked, check};
+pub use order::PlaceList;
 
 #[cfg(test)]
 mod tests;

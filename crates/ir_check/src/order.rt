@@ -1,18 +1,13 @@
 //! An order of a function's blocks in which each edge goes forward.
 
-ghost use Rattle.std.specs.Prelude.{◌≡◌, ◌<◌, ◌^◌, ◌↔◌, ℕ, length, map, IfOk, IfSome, None, MatchBool, MatchOption};
+ghost use Rattle.std.specs.Prelude.{◌≡◌, MatchBool};
 ghost use Rattle.std.specs.List.{Contains};
-ghost use Rattle.hk_graph.specs.Walks.{AreWithin};
-ghost use Rattle.ir_ast.specs.ProgramView.{view_function};
-ghost use Rattle.ir_check.specs.Graphs.{LeadsBack, HasNoOrder, IsOnward};
-ghost use Rattle.ir_check.specs.Paths.{FallsK10, AreFewBlocks};
-ghost use Rattle.ir_check.specs.Checked.{IsForward};
+ghost use Rattle.hk_graph.specs.Sorted.{IsOrder};
+ghost use Rattle.hk_flow.specs.Onward.{AreClear};
+ghost use Rattle.ir_check.specs.Graphs.{LeadsBack, HasNoOrder};
 
-use crate::edges::block_edges;
-use hk_flow::{forward, is_acyclic};
-use hk_graph::{Graph, sort};
-use ir_ast::Function;
-use std::alloc::{AllocError, Global};
+use hk_flow::is_acyclic;
+use hk_graph::{Graph, Order};
 use std::marker::Model;
 
 /// Places in an order.
@@ -64,31 +59,13 @@ fn leads_back(graph: &Graph) -> bool
     false
 }
 
-/// The nodes of a graph in an order in which each edge goes forward, and none where some node lies on a cycle or an edge leads to
-/// node 0.
-pub fn order_of(alloc: Global, graph: &Graph) -> Result<Option<PlaceList>, AllocError>
-    requires within { AreWithin graph.now }
-    requires small { length graph.now < 2 ^ 32 }
-    ensures { IfOk result (λ order. MatchOption order (HasNoOrder graph.now) (IsOnward graph.now)) }
+/// Whether the nodes of a graph, of which this is an order, have one in which each edge goes forward and none to node 0.
+pub fn has_order(graph: &Graph, order: &Order) -> bool
+    requires { IsOrder graph.now order.now.nodes.items order.now.cyclic.items }
+    ensures { MatchBool result (AreClear order.now.cyclic.items × (LeadsBack graph.now → ⊥)) (HasNoOrder graph.now) }
 {
     if leads_back(graph) {
-        return Ok(None);
+        return false;
     }
-    let order = sort(alloc, graph)?;
-    if is_acyclic(&order) {
-        Ok(Some(PlaceList::new(forward(alloc, &order)?)))
-    } else {
-        Ok(None)
-    }
-}
-
-/// The places of a function's blocks in an order in which each edge goes forward, and none where the blocks have a cycle or an edge
-/// goes to the first block.
-pub fn block_order(alloc: Global, function: &Function) -> Result<Option<PlaceList>, AllocError>
-    requires { AreFewBlocks (view_function function.now) }
-    ensures forward { IfOk result (λ order. IfSome order (IsForward (view_function function.now))) }
-    ensures cycle { IfOk result (λ order. order ≡ None ↔ FallsK10 (view_function function.now)) }
-{
-    let edges = block_edges(alloc, function)?;
-    order_of(alloc, &edges)
+    is_acyclic(order)
 }

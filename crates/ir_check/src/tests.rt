@@ -1,9 +1,11 @@
-//! Calls with ample memory. Orders, cycles, lengths and undefined uses are those of the texts in LLVM's words beside them.
+//! Calls with ample memory. Cycles, lengths and undefined uses are those of the texts in LLVM's words beside them.
 
 ghost use Rattle.std.specs.Prelude.{◌≡◌, ◌+◌, length, OnOk};
 
+use crate::calls::{Calls, calls_in};
 use crate::edges::{block_edges, blocks_of};
-use crate::{Calls, PlaceList, Tally, Uses, block_order, calls_in, same_counts};
+use crate::tally::{Tally, same_counts};
+use crate::uses::Uses;
 use hk_flow::is_acyclic;
 use hk_graph::sort;
 use ir_ast::{
@@ -162,28 +164,6 @@ fn fork_of(
     let b = block(alloc, b"a", middle)?;
     let c = block(alloc, b"b", end)?;
     function(alloc, b"f", three(alloc, a, b, c)?)
-}
-
-fn order(alloc: Global, function: &Function) -> Result<Option<PlaceList>, AllocError> {
-    if blocks_of(function).len() > 1000 {
-        return Err(AllocError);
-    }
-    block_order(alloc, function)
-}
-
-#[test]
-fn blocks_are_ordered_where_no_path_returns(rt: HostRuntime) -> Result<(), Fail> {
-    let alloc = rt.alloc();
-    let table: [(&[u8], bool); 3] = [(b"b", true), (b"a", false), (b"0", false)];
-    for (after, is_ordered) in table {
-        let text = fork(alloc, after, Op::Unreachable)?;
-        let places = order(alloc, &text)?;
-        assert_eq!(rt; places.is_some(), is_ordered);
-        if let Some(places) = places {
-            assert_eq!(rt; places.as_slice(), [0, 1, 2].as_slice());
-        }
-    }
-    Ok(())
 }
 
 /// Whether the last instruction of the last block uses what a path misses.
