@@ -1,6 +1,6 @@
 //! A kernel that was checked.
 
-ghost use Rattle.std.specs.Prelude.{◌≡◌, ◌<◌, ◌^◌, ℕ, List, Some, None, is_some, if◌then◌else◌, length, slice_get, IfOk, OnOk};
+ghost use Rattle.std.specs.Prelude.{◌≡◌, ◌<◌, ◌^◌, ℕ, List, Some, None, is_some, if◌then◌else◌, length, slice_get, IfSome, IfOk, OnOk};
 ghost use Rattle.ir_ast.specs.Small.{IsSmall};
 ghost use Rattle.ir_ast.specs.Program.{FunctionView};
 ghost use Rattle.ir_ast.specs.ProgramView.{view_entries, view_function, view_module};
@@ -55,7 +55,8 @@ fn has_body(function: &Function) -> bool
 
 /// A place, where this is so.
 fn place_where(holds: bool, place: u32) -> Option<u32>
-    ensures { result ≡ (if holds then Some place else None) }
+    ensures place { result ≡ (if holds then Some place else None) }
+    ensures within { (n : ℕ) → place < n → IfSome result (λ p. p < n) }
 {
     if holds { Some(place) } else { None }
 }
@@ -63,7 +64,8 @@ fn place_where(holds: bool, place: u32) -> Option<u32>
 /// The place of the function of a name, where it has a body.
 fn body_place(functions: &FunctionTable, name: &Name) -> Option<u32>
     requires { length functions.now < 2 ^ 32 }
-    ensures { result ≡ find_body (view_entries view_function functions.now) name.now }
+    ensures found { result ≡ find_body (view_entries view_function functions.now) name.now }
+    ensures within { IfSome result (λ p. p < length functions.now) }
 {
     match functions.get(name) {
         Some(place) => place_where(has_body(functions.at(place)), place),
@@ -93,7 +95,8 @@ impl Checked {
 
     /// The place of the function of a name, where it has a body; none exactly where there is none. It takes no memory.
     pub fn find(&self, name: &Name) -> Option<u32>
-        ensures { result ≡ find_body (view_module self.now).functions name.now }
+        ensures found { result ≡ find_body (view_module self.now).functions name.now }
+        ensures within { IfSome result (λ p. p < length self.now.functions) }
     {
         body_place(&self.kernel.functions, name)
     }
