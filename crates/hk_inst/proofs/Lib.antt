@@ -1,0 +1,15 @@
+pub mod Tuples
+pub mod LikeReadings
+pub mod RequiredTerms
+pub mod Settled
+pub mod Members
+pub mod Completion
+pub mod QuestionFacts
+pub mod ToCase
+pub mod ChosenBits
+pub mod WitnessNumbers
+pub mod FromCase
+pub mod Whole
+pub mod Widening
+pub mod OurTerms
+pub mod GrowthSteps
