@@ -1,12 +1,12 @@
 -- Bits for the inputs of a table, so that each input's word has the input's value under a reading.
-use Rattle.std.proofs.Common.{◌≡◌, ◌⊎◌, inl, inr, ℕ, zero, suc, ◌+◌, ◌-◌, ◌*◌, ◌/◌, ◌%◌, ◌^◌, ◌<◌, ◌≤◌, Bool, true, false, ◌&&◌, cond, nat_eq, nat_le, List, [], ◌∷◌, ◌++◌, length, map, take, drop, reverse, ℤ, Some, refl, sym, ◌∙◌, ap, subst, arith, add-one}
+use Rattle.std.proofs.Common.{◌≡◌, ◌⊎◌, inl, inr, ℕ, zero, suc, ◌+◌, ◌-◌, ◌/◌, ◌%◌, ◌^◌, ◌<◌, ◌≤◌, Bool, true, false, ◌&&◌, cond, nat_eq, nat_le, List, [], ◌∷◌, ◌++◌, length, map, take, reverse, ℤ, Some, refl, sym, ◌∙◌, ap, subst, arith, add-one}
 use Rattle.std.specs.Prelude.{slice_get}
 use Rattle.std.specs.List.{All}
 use Rattle.std.proofs.Math.Seq.{get_or-append_seam, take-append_seam}
 use Rattle.std.proofs.lemmas.Bool.{le-leb, leb-true}
-use Rattle.std.proofs.lemmas.List.{append_assoc, append-nil, reverse-append, length-append, take-append-drop}
+use Rattle.std.proofs.lemmas.List.{append_assoc, append-nil, reverse-append, length-append}
 use Rattle.std.proofs.lemmas.List.Elements.{All-cons, All-head, All-tail}
-use Rattle.std.proofs.lemmas.Option.{same_Some, slice_get-get_or, get_or_from_slice_get}
+use Rattle.std.proofs.lemmas.Option.{same_Some, slice_get-get_or}
 use Rattle.hk_term.specs.Meaning.{Reading, value}
 use Rattle.hk_term.specs.declared.node.Node.{Node}
 use Rattle.hk_cnf.specs.Literal.{place_of, value_at}
@@ -14,10 +14,9 @@ use Rattle.hk_cnf.specs.Circuit.{Circuit, variable}
 use Rattle.hk_cnf.specs.CircuitGrowth.{values_of}
 use Rattle.hk_cnf.proofs.Running.{place_of-variable}
 use Rattle.hk_circuit.specs.Words.{bit}
-use Rattle.hk_blast.specs.Blasted.{Words, is_input, is_input_at, places_of, input_places, variables_from, IsFree, IsBlasted, AreBlasted, word_number}
-use Rattle.hk_blast.proofs.WordLists.{get_push, get_more, get_front, front_front, is_input-at}
+use Rattle.hk_blast.specs.Blasted.{Words, is_input_at, places_of, input_places, variables_from, IsFree, IsBlasted, AreBlasted, word_number}
+use Rattle.hk_blast.proofs.WordLists.{get_push, is_input-at}
 use Rattle.hk_blast.proofs.BlastedLaws.{front-blasted}
-use Rattle.hk_inst.proofs.Tuples.{clash}
 
 -- the bit of a number at a place, the least at 0
 abbrev pub bit_at : ℕ → ℕ → Bool

@@ -1,5 +1,5 @@
 -- First part: each reading under which the goal has the value 1 gives an assignment that satisfies the clauses.
-use Rattle.std.proofs.Common.{◌≡◌, ◌⊎◌, inl, inr, ℕ, zero, suc, ◌+◌, ◌<◌, ◌≤◌, ◌%◌, ◌^◌, Bool, true, false, ◌&&◌, cond, nat_eq, List, [], ◌∷◌, length, map, take, reverse, ℤ, Some, refl, sym, ◌∙◌, ap, subst, arith}
+use Rattle.std.proofs.Common.{◌≡◌, ◌⊎◌, inl, inr, ℕ, zero, suc, ◌+◌, ◌<◌, ◌%◌, ◌^◌, Bool, true, false, ◌&&◌, cond, nat_eq, List, [], ◌∷◌, length, map, take, reverse, ℤ, Some, refl, sym, ◌∙◌, ap, subst, arith}
 use Rattle.std.specs.Prelude.{slice_get, unwrap_or}
 use Rattle.std.specs.List.{All, Contains, list_all, list_any}
 use Rattle.std.specs.Map.{lookup}
@@ -7,21 +7,19 @@ use Rattle.std.proofs.lemmas.Bool.{eqb-true}
 use Rattle.std.proofs.lemmas.List.{reverse-reverse}
 use Rattle.hk_term.specs.Operations.{bit, unary_value, binary_value, resize_value}
 use Rattle.hk_term.specs.Shape.{width, NodeFits}
-use Rattle.hk_term.specs.Meaning.{Reading, every_tuple, node_value, value}
-use Rattle.hk_term.specs.declared.bounds.Bound.{Bound}
+use Rattle.hk_term.specs.Meaning.{Reading, every_tuple, value}
 use Rattle.hk_term.specs.declared.node.Node.{Node}
 use Rattle.hk_term.specs.declared.node.Node.TheVariants.{Const, Var, Select, Unary, Binary, Choose, Resize, ForAll}
 use Rattle.hk_term.proofs.TermLists.{holds}
 use Rattle.hk_copy.specs.declared.stand.Stand.TheVariants.{Number}
 use Rattle.hk_copy.specs.Stands.{stand_value, with_tuple}
 use Rattle.hk_copy.proofs.TupleLaws.{copies-tuple, numbers-tuple}
-use Rattle.hk_cnf.specs.Clauses.{Clauses, clauses_value}
+use Rattle.hk_cnf.specs.Clauses.{clauses_value}
 use Rattle.hk_cnf.specs.Literal.{place_of, IsWithin}
-use Rattle.hk_cnf.specs.Circuit.{Circuit, all_gate_clauses}
 use Rattle.hk_cnf.specs.CircuitGrowth.{values_of}
 use Rattle.hk_cnf.specs.Determined.{is_output, Completes, IsDetermined}
 use Rattle.hk_cnf.proofs.Determination.{IsDetermined-circuit}
-use Rattle.hk_blast.specs.Blasted.{Words, word_in, HasWord, is_input, is_input_at, input_places, variables_from, IsFree, IsBlasted, word_number}
+use Rattle.hk_blast.specs.Blasted.{word_in, HasWord, is_input, is_input_at, variables_from, IsFree, IsBlasted, word_number}
 use Rattle.hk_blast.proofs.WordLists.{word_of, entry_of, is_input-at}
 use Rattle.hk_blast.proofs.BlastedLaws.{variables-below}
 use Rattle.hk_blast.proofs.Unfixed.{inputs-unfixed}
@@ -32,8 +30,8 @@ use Rattle.hk_inst.specs.Inputs.{Table, number_in, is_other}
 use Rattle.hk_inst.specs.Truths.{IsTuple}
 use Rattle.hk_inst.specs.Demanded.{IsOpening, IsDemand}
 use Rattle.hk_inst.specs.Exactness.{IsRefuted, Agrees}
-use Rattle.hk_inst.specs.Questions.{Asked, AreDemands, says, all_said, IsQuestion}
-use Rattle.hk_inst.proofs.Tuples.{clash, both, tuple-at}
+use Rattle.hk_inst.specs.Questions.{Asked, AreDemands, says, IsQuestion}
+use Rattle.hk_inst.proofs.Tuples.{both, tuple-at}
 use Rattle.hk_inst.proofs.Members.{contains-cases, all-from-members, of-all}
 use Rattle.hk_inst.proofs.LikeReadings.{some-node}
 use Rattle.hk_inst.proofs.RequiredTerms.{Local, bit-true, agreement-holds, implication-holds, choice-holds}
@@ -221,14 +219,18 @@ module _ (q : Asked) (h : IsQuestion q) (w : Reading) where
 
 -- each case in which the goal has the value 1 extends to an assignment
 pub case-extends : (q : Asked) → IsQuestion q → (v : Reading) → value q.nodes q.goal v ≡ 1 → (a : List Bool) × (length a ≡ q.circuit.vars) × (clauses_value a q.circuit.clauses ≡ true) × (Agrees q.nodes q.table v a)
-case-extends q h v goal =
-    (taken q h x.case, (completes q h x.case).sized, taken-satisfies q h x.case (x.goal_same ∙ goal) refuted, record {
-      case = x.case;
-      entry = x.entry;
-      var = λ id e. x.var id (any-reverse (λ o. list_any (is_other id) o.stands) q.table.openings ∙ e);
-      numbers = taken-number q h x.case;
-      tuples = refuted;
-    })
+case-extends q h v goal = (
+  taken q h x.case,
+  (completes q h x.case).sized,
+  taken-satisfies q h x.case (x.goal_same ∙ goal) refuted,
+  record {
+    case = x.case;
+    entry = x.entry;
+    var = λ id e. x.var id (any-reverse (λ o. list_any (is_other id) o.stands) q.table.openings ∙ e);
+    numbers = taken-number q h x.case;
+    tuples = refuted;
+  },
+)
   where
     x : IsWitnessed q.nodes h.fit q.goal (known-within q.nodes q.circuit q.table.words h.blasted q.goal h.table.of_goal) v (reverse q.table.openings)
     x = witnessed q.nodes h.fit q.goal (known-within q.nodes q.circuit q.table.words h.blasted q.goal h.table.of_goal) v h.limit (reverse q.table.openings) h.chosen

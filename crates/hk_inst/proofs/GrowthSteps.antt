@@ -1,42 +1,38 @@
 -- The steps in which a question grows: more terms in the list, a term that is blasted, a quantifier that is opened, a clause that is required,
 -- and an entry that is done.
-use Rattle.std.proofs.Common.{◌≡◌, ◌≢◌, ◌⊎◌, inl, inr, ℕ, zero, suc, ◌+◌, ◌<◌, ◌≤◌, ◌++◌, ◌&&◌, ◌||◌, Bool, true, false, cond, nat_eq, List, [], ◌∷◌, length, take, drop, reverse, ℤ, Option, Some, None, refl, sym, ◌∙◌, ap, subst, arith, get_or}
-use Rattle.std.specs.Prelude.{slice_get, unwrap_or, is_some}
-use Rattle.std.specs.List.{All, AllPairs, Contains, list_all, list_any, flat_map}
-use Rattle.std.specs.Map.{lookup}
-use Rattle.std.proofs.lemmas.Bool.{cases_lt, cases_eq}
-use Rattle.std.proofs.lemmas.Option.{same_Some, slice_get_within, get_or_from_slice_get}
-use Rattle.std.proofs.lemmas.List.{append_assoc, append-nil, length-append, length_push, reverse-append, take_more, take-append-drop, take-append-le, get_or_append_left, get_or_push}
-use Rattle.std.proofs.lemmas.List.Elements.{All-push, Contains-append_left, Contains-append_right, All-head, All-tail, Contains-push_cases, Contains-push, Contains-get_or}
+use Rattle.std.proofs.Common.{◌≡◌, ◌≢◌, ◌⊎◌, inl, inr, ℕ, ◌+◌, ◌<◌, ◌≤◌, ◌++◌, ◌&&◌, ◌||◌, Bool, true, false, nat_eq, List, [], ◌∷◌, length, take, drop, reverse, ℤ, Some, refl, sym, ◌∙◌, ap, subst, arith, get_or}
+use Rattle.std.specs.Prelude.{slice_get, is_some}
+use Rattle.std.specs.List.{All, AllPairs, Contains, list_all}
+use Rattle.std.proofs.lemmas.Bool.{cases_lt}
+use Rattle.std.proofs.lemmas.Option.{slice_get_within, get_or_from_slice_get}
+use Rattle.std.proofs.lemmas.List.{length-append, reverse-append, take_more, take-append-drop, take-append-le, get_or_append_left, get_or_push}
+use Rattle.std.proofs.lemmas.List.Elements.{All-push, Contains-append_left, All-head, All-tail, Contains-push_cases, Contains-push, Contains-get_or}
 use Rattle.std.proofs.lemmas.List.Folds.{list_all-append, list_any-append}
 use Rattle.std.proofs.lemmas.Grind.{flat_map-append}
-use Rattle.hk_term.specs.Shape.{AllFitIn, IsDistinct, Grows, width}
+use Rattle.hk_term.specs.Shape.{AllFitIn, IsDistinct, Grows}
 use Rattle.hk_term.specs.declared.bounds.Bound.{Bound}
 use Rattle.hk_term.specs.declared.node.Node.{Node}
 use Rattle.hk_term.specs.declared.node.Node.TheVariants.{Select, ForAll}
-use Rattle.hk_copy.specs.Reach.{Reads, Frees, AllPass}
+use Rattle.hk_copy.specs.Reach.{Frees, AllPass}
 use Rattle.hk_copy.proofs.ListLaws.{reach-older, free-older}
 use Rattle.hk_copy.proofs.StepLaws.{grows-refl, longer-width}
 use Rattle.hk_cnf.specs.Clauses.{clause_value, clauses_value}
-use Rattle.hk_cnf.specs.Circuit.{Circuit, gate_value}
-use Rattle.hk_cnf.specs.CircuitParts.{IsCircuit}
+use Rattle.hk_cnf.specs.Circuit.{Circuit}
 use Rattle.hk_cnf.specs.Determined.{is_output}
 use Rattle.hk_cnf.specs.Front.{IsFront}
 use Rattle.hk_cnf.specs.Required.{required_of}
-use Rattle.hk_blast.specs.Blasted.{Words, word_in, HasWord, IsMissing, Needs, Lengthens, places_of, input_places, AreBlasted}
-use Rattle.hk_blast.proofs.WordLists.{has_more, word_more, only_here}
+use Rattle.hk_blast.specs.Blasted.{Words, word_in, HasWord, IsMissing, Needs, places_of, input_places}
+use Rattle.hk_blast.proofs.WordLists.{has_more, word_more}
 use Rattle.hk_blast.proofs.BlastedLaws.{grown-blasted}
 use Rattle.hk_blast.proofs.LongerLists.{blasted-longer, places-longer}
-use Rattle.hk_inst.specs.declared.instance.Instance.{Instance}
 use Rattle.hk_inst.specs.declared.opening.Opening.{Opening}
-use Rattle.hk_inst.specs.Inputs.{Table}
-use Rattle.hk_inst.specs.Demanded.{IsOpening, IsMentioned}
-use Rattle.hk_inst.specs.Questions.{Asked, AreDemands, says, all_said, IsChosen, AreChosen}
-use Rattle.hk_inst.specs.Growing.{IsGoal, IsOurs, ids_below, IsBase, AreOpened, AreRequired, IsMade}
+use Rattle.hk_inst.specs.Demanded.{IsOpening}
+use Rattle.hk_inst.specs.Questions.{Asked, says, all_said, IsChosen, AreChosen}
+use Rattle.hk_inst.specs.Growing.{IsOurs, ids_below, IsBase, AreOpened, AreRequired, IsMade, IsRequiring}
 use Rattle.hk_inst.proofs.Tuples.{clash}
 use Rattle.hk_inst.proofs.Members.{has-head, has-cases, has-either, has-behind}
 use Rattle.hk_inst.proofs.QuestionFacts.{known-within}
-use Rattle.hk_inst.proofs.Widening.{at-older, length-longer, reach-longer, free-longer, opening-longer, all-chosen-longer, IsWider, demands-wider, mentioned-wider}
+use Rattle.hk_inst.proofs.Widening.{at-older, reach-longer, free-longer, opening-longer, all-chosen-longer, IsWider, demands-wider, mentioned-wider}
 use Rattle.hk_inst.proofs.OurTerms.{ours-needs}
 
 abbrev pub with_nodes : Asked → List Node → Asked
@@ -51,7 +47,7 @@ with_circuit q d = record q { circuit = d }
 abbrev pub with_opening : Asked → Opening → Asked
 with_opening q o = record q { table = record q.table { openings = q.table.openings ++ o ∷ [] } }
 
-front-has : (n : ℕ) (words : Words) (t : ℕ) → HasWord (take n words) t → HasWord words t
+pub front-has : (n : ℕ) (words : Words) (t : ℕ) → HasWord (take n words) t → HasWord words t
 front-has n words t h = subst (λ ws. HasWord ws t) (take-append-drop n words) (has_more t (take n words) (drop n words) h)
 
 -- ---- more terms in the list
@@ -210,14 +206,6 @@ module _ (q : Asked) (d : Circuit) (words : Words) (t : ℕ) (m : IsMade q.nodes
 
 -- ---- a clause that is required
 
--- the circuit with one more clause
-pub record IsRequiring (c d : Circuit) (clause : List ℤ) : Type 0 where
-  pub circuit : IsCircuit d
-  pub vars : d.vars ≡ c.vars
-  pub gates : d.gates ≡ c.gates
-  pub keeps : (l : ℤ) (v : ℕ → Bool) → gate_value d l v ≡ gate_value c l v
-  pub beside : required_of d ≡ required_of c ++ clause ∷ []
-
 pub base-requiring : (q : Asked) (d : Circuit) (clause : List ℤ) → IsRequiring q.circuit d clause → (first next done : ℕ) → IsBase q first next done → IsBase (with_circuit q d) first next done
 base-requiring q d clause r first next done h = record {
   fit = h.fit;
@@ -294,10 +282,10 @@ base-opening q o first next done h = record {
 -- ---- an entry that is done
 
 -- the terms of one entry more
-next-entry : (words : Words) (done : ℕ) (e : ℕ × List ℤ) → slice_get words done ≡ Some e → take (done + 1) words ≡ take done words ++ e ∷ []
+pub next-entry : (words : Words) (done : ℕ) (e : ℕ × List ℤ) → slice_get words done ≡ Some e → take (done + 1) words ≡ take done words ++ e ∷ []
 next-entry words done e at = take_more words done e (slice_get_within words done e at) ∙ ap (λ x. take done words ++ x ∷ []) (get_or_from_slice_get words done e e at)
 
-next-cases : (words : Words) (done : ℕ) (e : ℕ × List ℤ) → slice_get words done ≡ Some e → (t : ℕ) → HasWord (take (done + 1) words) t → (HasWord (take done words) t) ⊎ (t ≡ e.0)
+pub next-cases : (words : Words) (done : ℕ) (e : ℕ × List ℤ) → slice_get words done ≡ Some e → (t : ℕ) → HasWord (take (done + 1) words) t → (HasWord (take done words) t) ⊎ (t ≡ e.0)
 next-cases words done e at t has = by (has-either (take done words) (e ∷ []) t (subst (λ ws. HasWord ws t) (next-entry words done e at) has))
   where
     by : (HasWord (take done words) t) ⊎ (HasWord (e ∷ []) t) → (HasWord (take done words) t) ⊎ (t ≡ e.0)

@@ -13,3 +13,9 @@ pub mod Whole
 pub mod Widening
 pub mod OurTerms
 pub mod GrowthSteps
+pub mod WideStands
+pub mod MadeTerms
+pub mod StateSteps
+pub mod FoundTerms
+pub mod Beginning
+pub mod KeptQuestions

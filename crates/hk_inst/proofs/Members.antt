@@ -1,11 +1,11 @@
 -- Entries of tables, members of lists, and the nodes that tests find.
-use Rattle.std.proofs.Common.{◌≡◌, ◌⊎◌, inl, inr, ℕ, zero, suc, ◌<◌, ◌≤◌, Bool, true, false, ◌&&◌, ◌||◌, cond, nat_eq, List, [], ◌∷◌, ◌++◌, length, take, drop, ℤ, Option, Some, None, refl, sym, ◌∙◌, ap, subst, arith}
+use Rattle.std.proofs.Common.{◌≡◌, ◌⊎◌, inl, inr, ℕ, zero, suc, ◌<◌, ◌≤◌, Bool, true, false, ◌&&◌, ◌||◌, cond, nat_eq, List, [], ◌∷◌, ◌++◌, ℤ, Option, Some, None, refl, sym, ◌∙◌, ap, subst, arith}
 use Rattle.std.specs.Prelude.{slice_get, is_some}
-use Rattle.std.specs.List.{All, Contains, list_all, list_any, flat_map}
+use Rattle.std.specs.List.{All, Contains, list_all, flat_map}
 use Rattle.std.specs.Map.{lookup}
 use Rattle.std.specs.Cmp.Lexicographic.{pointwise, pointwise_decides}
-use Rattle.std.proofs.lemmas.Bool.{eqb-true, eq-eqb, ne_eqb, cases_lt}
-use Rattle.std.proofs.lemmas.Option.{same_Some, slice_get-get_or, slice_get_within, get_or_from_slice_get}
+use Rattle.std.proofs.lemmas.Bool.{eqb-true, eq-eqb, cases_lt}
+use Rattle.std.proofs.lemmas.Option.{slice_get-get_or, slice_get_within, get_or_from_slice_get}
 use Rattle.std.proofs.lemmas.List.Elements.{Contains-append_left, Contains-append_right, Contains-append_cases}
 use Rattle.hk_term.specs.Shape.{IsDistinct}
 use Rattle.hk_term.specs.declared.bounds.Bound.{Bound}
@@ -174,3 +174,22 @@ numbered-are nodes kind (step {entries = entries} {steps = steps} {first = first
 
 pub member-at : {X : Type 0} (xs : List X) (k : ℕ) (x : X) → slice_get xs k ≡ Some x → Contains xs x
 member-at xs k x e = (k, slice_get_within xs k x e, get_or_from_slice_get xs k x x e)
+
+pub numbered-kind : (nodes : List Node) (kind : Option Node → Bool) {steps : List Words} {terms : List ℕ} → IsNumbering nodes kind steps terms → (t : ℕ) → Contains terms t → kind (slice_get nodes t) ≡ true
+numbered-kind nodes kind none t (k, l, e) = absurd (omega (arith, l))
+numbered-kind nodes kind (step {first = first} {terms = terms} now later) t c = by (Contains-append_cases first terms t c) (numbered-kind nodes kind later t)
+  where
+    by : (Contains first t) ⊎ (Contains terms t) → (Contains terms t → kind (slice_get nodes t) ≡ true) → kind (slice_get nodes t) ≡ true
+    by (inl d) go = (now.are t d).1
+    by (inr d) go = go d
+
+pub quantifier-node : (o : Option Node) → is_quantifier o ≡ true → (bound : List Bound) × (inner : ℕ) × (o ≡ Some (ForAll bound inner))
+quantifier-node None e = clash (sym e)
+quantifier-node (Some (Const w n)) e = clash (sym e)
+quantifier-node (Some (Var w i)) e = clash (sym e)
+quantifier-node (Some (Select a w i)) e = clash (sym e)
+quantifier-node (Some (Unary k a)) e = clash (sym e)
+quantifier-node (Some (Binary k a b)) e = clash (sym e)
+quantifier-node (Some (Choose c a b)) e = clash (sym e)
+quantifier-node (Some (Resize k to a)) e = clash (sym e)
+quantifier-node (Some (ForAll b a)) e = (b, a, refl)

@@ -1,9 +1,8 @@
 -- Which terms are of a question: parts of such terms, the places of their reads, and the terms that are required of their quantifiers.
-use Rattle.std.proofs.Common.{◌≡◌, ◌⊎◌, inl, inr, ℕ, suc, ◌+◌, ◌<◌, ◌≤◌, ◌||◌, Bool, true, false, cond, nat_eq, List, [], ◌∷◌, length, reverse, Option, Some, None, refl, sym, ◌∙◌, ap, subst, arith, get_or}
+use Rattle.std.proofs.Common.{◌≡◌, ◌⊎◌, inl, inr, ℕ, suc, ◌+◌, ◌≤◌, ◌||◌, Bool, true, false, cond, nat_eq, List, [], ◌∷◌, length, Option, Some, None, refl, sym, ◌∙◌, ap, subst, arith, get_or}
 use Rattle.std.specs.Prelude.{slice_get}
 use Rattle.std.specs.List.{All, Contains}
 use Rattle.std.specs.Map.{lookup}
-use Rattle.std.proofs.lemmas.Bool.{ne_eqb, eq-eqb}
 use Rattle.std.proofs.lemmas.Option.{same_Some}
 use Rattle.std.proofs.lemmas.List.Elements.{All-nil, All-cons, All-head, All-tail}
 use Rattle.hk_term.specs.declared.bounds.Bound.{Bound}
@@ -22,7 +21,7 @@ use Rattle.hk_blast.specs.Blasted.Needs.{own as needs_own, part as needs_part}
 use Rattle.hk_inst.specs.declared.instance.Instance.{Instance}
 use Rattle.hk_inst.specs.declared.opening.Opening.{Opening}
 use Rattle.hk_inst.specs.Inputs.{Table}
-use Rattle.hk_inst.specs.Demanded.{IsRefutation, IsChoice, IsOpening, IsMentioned}
+use Rattle.hk_inst.specs.Demanded.{IsRefutation, IsOpening}
 use Rattle.hk_inst.specs.Demanded.IsRefutation.{ended, ranged}
 use Rattle.hk_inst.specs.Demanded.IsMentioned.{part as its_part, place as its_place, refuted as its_refuted}
 use Rattle.hk_inst.specs.Questions.{AreVariables}

@@ -1,15 +1,15 @@
 -- What an assignment that satisfies the clauses of a question makes of its terms.
-use Rattle.std.proofs.Common.{◌≡◌, ◌⊎◌, inl, inr, ℕ, suc, ◌+◌, ◌*◌, ◌<◌, ◌^◌, Bool, true, false, ◌&&◌, ◌||◌, cond, nat_eq, List, [], ◌∷◌, ◌++◌, length, map, take, drop, reverse, ℤ, Some, refl, sym, ◌∙◌, ap, subst, arith}
+use Rattle.std.proofs.Common.{◌≡◌, ◌⊎◌, inl, inr, ℕ, ◌+◌, ◌*◌, ◌<◌, ◌^◌, Bool, true, false, ◌&&◌, ◌||◌, nat_eq, List, [], ◌∷◌, length, take, drop, reverse, ℤ, Some, refl, sym, ◌∙◌, ap, subst, arith}
 use Rattle.std.specs.Prelude.{slice_get, unwrap_or}
 use Rattle.std.specs.List.{All, Contains, list_all}
 use Rattle.std.specs.Map.{lookup}
 use Rattle.std.proofs.lemmas.Option.{same_Some, slice_get_within}
 use Rattle.std.proofs.lemmas.List.{take-append-drop}
 use Rattle.std.proofs.lemmas.List.Elements.{All-head, All-tail}
-use Rattle.hk_term.specs.Shape.{width, AllFitIn, NodeFits}
+use Rattle.hk_term.specs.Shape.{width, AllFitIn}
 use Rattle.hk_term.specs.declared.bounds.Bound.{Bound}
 use Rattle.hk_term.specs.declared.node.Node.{Node}
-use Rattle.hk_term.specs.declared.node.Node.TheVariants.{Const, Binary, Choose}
+use Rattle.hk_term.specs.declared.node.Node.TheVariants.{Choose}
 use Rattle.hk_term.proofs.TermLists.{holds}
 use Rattle.hk_copy.specs.declared.stand.Stand.{Stand}
 use Rattle.hk_cnf.specs.Literal.{value_at}
@@ -18,7 +18,7 @@ use Rattle.hk_cnf.specs.Circuit.{Circuit, all_gate_clauses}
 use Rattle.hk_cnf.specs.Required.{required_of}
 use Rattle.hk_cnf.proofs.OwnClauses.{gate_value-own, required-satisfied}
 use Rattle.hk_circuit.specs.Words.{bit}
-use Rattle.hk_blast.specs.Blasted.{Words, word_in, HasWord, IsPart, HasValue, IsBlasted, AreBlasted, word_number}
+use Rattle.hk_blast.specs.Blasted.{Words, word_in, HasWord, IsPart, IsBlasted, AreBlasted, word_number}
 use Rattle.hk_blast.proofs.WordLists.{word_of, entry_of, has_more}
 use Rattle.hk_blast.proofs.BlastedLaws.{size-in, have-values, word_number-below}
 use Rattle.hk_inst.specs.declared.instance.Instance.{Instance}
@@ -159,6 +159,10 @@ module _ (q : Asked) (h : IsQuestion q) (a : List Bool) where
 
   pub demand-one : all_said q a ≡ true → (i : Instance) → Contains q.instances i → (d : ℕ) × (IsDemand q.nodes q.table i d) × (HasWord q.table.words d) × (number_in q.table.words a d ≡ 1)
   demand-one s i c =
-      let r = demand-of q.nodes q.table (HasWord q.table.words) q.instances q.demands h.demands h.demands_known i c in
-      (r.0, r.2, r.3, one-said r.0 r.3 (demand-width q.nodes h.fit q.table i r.0 r.2)
-      (all-members (says q.table.words a) q.demands r.0 (both-second (list_all (λ x. says q.table.words a x.demand) q.table.openings) (list_all (says q.table.words a) q.demands) (rest-said s)) r.1))
+      let r = demand-of q.nodes q.table (HasWord q.table.words) q.instances q.demands h.demands h.demands_known i c in (
+        r.0,
+        r.2,
+        r.3,
+        one-said r.0 r.3 (demand-width q.nodes h.fit q.table i r.0 r.2)
+            (all-members (says q.table.words a) q.demands r.0 (both-second (list_all (λ x. says q.table.words a x.demand) q.table.openings) (list_all (says q.table.words a) q.demands) (rest-said s)) r.1),
+      )

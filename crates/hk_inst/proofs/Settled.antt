@@ -1,22 +1,20 @@
 -- Numbers of terms are their values: where operations, reads, variables and quantifiers have numbers that fit together, each term's number
 -- is its value under the reading. A quantifier's number is settled by copies of its body, which stand behind it in the list but cost less,
 -- so the induction is over the cost first and the place second.
-use Rattle.std.proofs.Common.{◌≡◌, ◌⊎◌, inl, inr, ℕ, zero, suc, ◌+◌, ◌*◌, ◌<◌, ◌≤◌, ◌%◌, ◌^◌, Bool, true, false, cond, nat_eq, List, length, reverse, Some, arith, refl, sym, ◌∙◌, ap, subst}
+use Rattle.std.proofs.Common.{◌≡◌, ◌⊎◌, inl, inr, ℕ, zero, suc, ◌+◌, ◌*◌, ◌<◌, ◌≤◌, ◌%◌, ◌^◌, true, false, cond, nat_eq, List, length, reverse, Some, arith, refl, sym, ◌∙◌, ap, subst}
 use Rattle.std.specs.Prelude.{slice_get}
 use Rattle.std.proofs.Math.Nat.{mul-le-mul_right}
-use Rattle.std.proofs.lemmas.Bool.{eqb-true, eq-eqb}
+use Rattle.std.proofs.lemmas.Bool.{eq-eqb}
 use Rattle.hk_term.specs.Operations.{bit, unary_value, binary_value, resize_value}
 use Rattle.hk_term.specs.Shape.{width, AllFitIn, NodeFits}
 use Rattle.hk_term.specs.Meaning.{Reading, every_tuple, node_value, value}
-use Rattle.hk_term.specs.Facts.{Holds}
 use Rattle.hk_term.specs.declared.bounds.Bound.{Bound}
 use Rattle.hk_term.specs.declared.node.Node.{Node}
 use Rattle.hk_term.specs.declared.node.Node.TheVariants.{Const, Var, Select, Unary, Binary, Choose, Resize, ForAll}
 use Rattle.hk_term.proofs.TermLists.{holds}
 use Rattle.hk_copy.specs.Stands.{with_tuple}
-use Rattle.hk_copy.specs.Cost.{tuples, node_cost, cost}
+use Rattle.hk_copy.specs.Cost.{tuples, cost}
 use Rattle.hk_copy.proofs.CostLaws.{cost_is}
-use Rattle.hk_blast.specs.Blasted.{IsPart, HasValue}
 use Rattle.hk_inst.specs.Truths.{IsTuple}
 use Rattle.hk_inst.proofs.Tuples.{tuple-all, tuple-fails}
 use Rattle.hk_inst.proofs.LikeReadings.{some-node}

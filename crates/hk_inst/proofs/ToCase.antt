@@ -1,15 +1,13 @@
 -- Second part: where an assignment satisfies the clauses and every other instance is true under it, the goal has the value 1 in the
 -- completed case.
-use Rattle.std.proofs.Common.{◌≡◌, ◌⊎◌, inl, inr, ℕ, ◌<◌, ◌≤◌, ◌%◌, ◌^◌, Bool, true, false, ◌&&◌, nat_eq, List, length, map, reverse, Some, refl, sym, ◌∙◌, ap, subst, arith}
+use Rattle.std.proofs.Common.{◌≡◌, ◌⊎◌, inl, inr, ℕ, ◌<◌, ◌%◌, ◌^◌, Bool, true, false, ◌&&◌, nat_eq, List, map, Some, refl, sym, ◌∙◌, ap, subst}
 use Rattle.std.specs.Prelude.{slice_get}
-use Rattle.std.specs.List.{Contains, flat_map}
+use Rattle.std.specs.List.{Contains}
 use Rattle.std.proofs.Math.Nat.{mod-eq_of_lt}
 use Rattle.std.proofs.lemmas.Bool.{eq-eqb}
 use Rattle.std.proofs.lemmas.Option.{same_Some}
-use Rattle.hk_term.specs.Shape.{width}
 use Rattle.hk_term.specs.Meaning.{Reading, value}
 use Rattle.hk_term.specs.declared.bounds.Bound.{Bound}
-use Rattle.hk_term.specs.declared.node.Node.{Node}
 use Rattle.hk_term.specs.declared.node.Node.TheVariants.{Var, Select, ForAll}
 use Rattle.hk_term.proofs.TermLists.{holds}
 use Rattle.hk_copy.specs.declared.stand.Stand.TheVariants.{Number}
@@ -22,9 +20,9 @@ use Rattle.hk_blast.specs.Blasted.{HasWord}
 use Rattle.hk_inst.specs.declared.instance.Instance.{Instance}
 use Rattle.hk_inst.specs.declared.instance.Instance.TheVariants.{Pair, Tuple}
 use Rattle.hk_inst.specs.declared.opening.Opening.{Opening}
-use Rattle.hk_inst.specs.Inputs.{Table, number_in, completed, is_variable, is_read_at, is_select, is_quantifier}
-use Rattle.hk_inst.specs.Truths.{IsTuple, PairOf, TupleOf, IsTrue, is_among}
-use Rattle.hk_inst.specs.Demanded.{IsImplication, IsOpening, IsDemand}
+use Rattle.hk_inst.specs.Inputs.{number_in, completed, is_variable, is_read_at, is_select, is_quantifier}
+use Rattle.hk_inst.specs.Truths.{IsTuple, IsTrue, is_among}
+use Rattle.hk_inst.specs.Demanded.{IsOpening, IsDemand}
 use Rattle.hk_inst.specs.Questions.{Asked, IsQuestion}
 use Rattle.hk_inst.proofs.Members.{variable-node, read-node, index_of, bound_of, body_of, node-once, among-contains, numbered-all, at-place, of-all}
 use Rattle.hk_inst.proofs.Completion.{variable-found, entry-found}
@@ -114,12 +112,15 @@ module _ (q : Asked) (h : IsQuestion q) (a : List Bool) (s : clauses_value a q.c
           let bound_is : p.bound ≡ bound = ap bound_of (sym node ∙ at) in
           let body_is : p.body ≡ body = ap body_of (sym node ∙ at) in
           let copy : Copies q.nodes (standing bound (map Number ks)) body b = subst (λ (z : List Bound × ℕ). Copies q.nodes (standing z.0 (map Number ks)) z.1 b) {x = (p.bound, p.body)} {y = (bound, body)} (λ i. (bound_is i, body_is i)) copies in
-          inr (record {
-            copy = b;
-            known = its-local.parts d b _ implies.is kd (inr (inl refl));
-            cheap = copies-cost q.nodes h.fit copy;
-            value_is = copies-tuple q.nodes h.fit bound (map Number ks) body b copy u ∙ ap (λ js. value q.nodes body (with_tuple bound js u)) (numbers-tuple ks u);
-          }, implication-says q.nodes (HasWord q.table.words) f its-local p.term b d implies kd told (ap f term ∙ one))
+          inr (
+            record {
+              copy = b;
+              known = its-local.parts d b _ implies.is kd (inr (inl refl));
+              cheap = copies-cost q.nodes h.fit copy;
+              value_is = copies-tuple q.nodes h.fit bound (map Number ks) body b copy u ∙ ap (λ js. value q.nodes body (with_tuple bound js u)) (numbers-tuple ks u);
+            },
+            implication-says q.nodes (HasWord q.table.words) f its-local p.term b d implies kd told (ap f term ∙ one),
+          )
 
   false-at : (t body : ℕ) (bound : List Bound) → slice_get q.nodes t ≡ Some (ForAll bound body) → HasWord q.table.words t → f t ≡ 0
       → (ks : List ℕ) × (IsTuple bound ks) × (o : IsOpened q.nodes (HasWord q.table.words) u bound body ks) × (nat_eq (f o.copy) 1 ≡ false)

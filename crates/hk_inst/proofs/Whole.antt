@@ -1,12 +1,10 @@
 -- The clauses of a question are exact for its goal and its instances.
-use Rattle.std.proofs.Common.{◌≡◌, ◌⊎◌, ℕ, ◌+◌, ◌≤◌, ◌%◌, ◌^◌, Bool, true, false, nat_eq, List, length, map, Some, refl, sym, ◌∙◌, ap, subst, arith}
+use Rattle.std.proofs.Common.{◌≡◌, ℕ, ◌%◌, ◌^◌, nat_eq, List, Some, refl, sym, ◌∙◌, subst, arith}
 use Rattle.std.specs.Prelude.{slice_get}
-use Rattle.std.specs.List.{Contains}
 use Rattle.std.proofs.lemmas.Bool.{eqb-true, eq-eqb}
 use Rattle.hk_term.specs.Meaning.{Reading, every_tuple, value}
 use Rattle.hk_term.proofs.TermLists.{holds}
 use Rattle.hk_copy.specs.Stands.{with_tuple}
-use Rattle.hk_cnf.specs.Clauses.{Clauses}
 use Rattle.hk_cnf.specs.Required.{required_of}
 use Rattle.hk_cnf.proofs.Determination.{IsDetermined-circuit, Mixes-required}
 use Rattle.hk_blast.proofs.Unfixed.{inputs-unfixed}

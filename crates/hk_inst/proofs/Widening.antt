@@ -1,16 +1,16 @@
 -- What is said of terms, instances and quantifiers stays true as the term list and the table grow.
-use Rattle.std.proofs.Common.{◌≡◌, ◌≢◌, ◌⊎◌, inl, inr, ℕ, ◌<◌, ◌≤◌, ◌++◌, List, [], ◌∷◌, length, map, reverse, Some, refl, sym, ◌∙◌, ap, subst, arith}
+use Rattle.std.proofs.Common.{◌≡◌, ℕ, ◌<◌, ◌≤◌, List, [], ◌∷◌, length, map, Some, sym, ◌∙◌, ap, subst, arith}
 use Rattle.std.specs.Prelude.{slice_get}
-use Rattle.std.specs.List.{All, Contains}
+use Rattle.std.specs.List.{Contains}
 use Rattle.std.proofs.lemmas.List.{length-append}
 use Rattle.hk_term.specs.Shape.{Grows}
 use Rattle.hk_term.specs.declared.bounds.Bound.{Bound}
 use Rattle.hk_term.specs.declared.node.Node.{Node}
 use Rattle.hk_term.proofs.Interning.{slice_get-append}
 use Rattle.hk_copy.specs.declared.stand.Stand.{Stand}
-use Rattle.hk_copy.specs.declared.stand.Stand.TheVariants.{Number, Other}
+use Rattle.hk_copy.specs.declared.stand.Stand.TheVariants.{Number}
 use Rattle.hk_copy.specs.Stands.{standing}
-use Rattle.hk_copy.specs.Reach.{Reaches, Reads, Frees}
+use Rattle.hk_copy.specs.Reach.{Reaches, Frees}
 use Rattle.hk_copy.specs.Reach.Reaches.{own, under}
 use Rattle.hk_copy.specs.Reach.Frees.{itself, within}
 use Rattle.hk_copy.proofs.CopyLaws.{copies-grows}
@@ -20,10 +20,10 @@ use Rattle.hk_inst.specs.declared.instance.Instance.TheVariants.{Pair, Tuple}
 use Rattle.hk_inst.specs.declared.opening.Opening.{Opening}
 use Rattle.hk_inst.specs.Inputs.{Table}
 use Rattle.hk_inst.specs.Truths.{PairOf, TupleOf}
-use Rattle.hk_inst.specs.Demanded.{IsAgreement, IsImplication, IsRefutation, IsChoice, IsOpening, IsDemand, IsMentioned}
+use Rattle.hk_inst.specs.Demanded.{IsAgreement, IsImplication, IsRefutation, IsOpening, IsDemand, IsMentioned}
 use Rattle.hk_inst.specs.Demanded.IsRefutation.{ended, ranged}
 use Rattle.hk_inst.specs.Demanded.IsMentioned.{goal as its_goal, part as its_part, place as its_place, refuted as its_refuted, added as its_added}
-use Rattle.hk_inst.specs.Questions.{AreDemands, AreVariables, IsChosen, AreChosen}
+use Rattle.hk_inst.specs.Questions.{AreDemands, IsChosen, AreChosen}
 
 module _ (old new : List Node) (g : Grows old new) where
   pub at-longer : (k : ℕ) (n : Node) → slice_get old k ≡ Some n → slice_get new k ≡ Some n

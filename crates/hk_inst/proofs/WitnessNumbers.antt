@@ -5,7 +5,7 @@ use Rattle.std.specs.List.{All, Contains, list_any}
 use Rattle.std.proofs.Math.Nat.{mod-eq_of_lt}
 use Rattle.std.proofs.lemmas.Bool.{eq-eqb, ne_eqb}
 use Rattle.std.proofs.lemmas.List.{reverse-append}
-use Rattle.std.proofs.lemmas.List.Elements.{All-nil, All-cons, All-head, All-tail, Contains-append_left, Contains-append_right}
+use Rattle.std.proofs.lemmas.List.Elements.{All-nil, All-cons, Contains-append_left, Contains-append_right}
 use Rattle.std.proofs.lemmas.List.Folds.{list_any-append}
 use Rattle.std.proofs.lemmas.Option.{slice_get_within}
 use Rattle.hk_term.specs.Operations.{bit}
@@ -151,12 +151,13 @@ module _ (nodes : List Node) (fit : AllFitIn (reverse nodes)) (goal : ℕ) (insi
       let before : body < p.term = (holds nodes p.term _ fit at).fits.0 in
       let same : value nodes p.term x ≡ value nodes p.term w = value-alike nodes fit c.first c.made c.below p.term made here x w alike in
       let tuple : map (stand_value x) p.stands ≡ map (stand_value w) p.stands = stands x w alike.var in
-      let told : (IsTuple bound (map (stand_value x) p.stands)) × (value nodes body (with_tuple bound (map (stand_value x) p.stands) x) ≡ 0) = was bound body at (same ∙ none) in
-      (subst (IsTuple bound) tuple told.0,
-      sym (value-alike nodes fit c.first c.made c.below body (omega (arith, before, made)) (omega (arith, before, here))
-      (with_tuple bound (map (stand_value x) p.stands) x) (with_tuple bound (map (stand_value w) p.stands) w)
-      (subst (λ ks. IsAlike c.first (with_tuple bound (map (stand_value x) p.stands) x) (with_tuple bound ks w)) tuple (with_tuple-alike bound (map (stand_value x) p.stands) c.first x w alike)))
-      ∙ told.1)
+      let told : (IsTuple bound (map (stand_value x) p.stands)) × (value nodes body (with_tuple bound (map (stand_value x) p.stands) x) ≡ 0) = was bound body at (same ∙ none) in (
+        subst (IsTuple bound) tuple told.0,
+        sym (value-alike nodes fit c.first c.made c.below body (omega (arith, before, made)) (omega (arith, before, here))
+            (with_tuple bound (map (stand_value x) p.stands) x) (with_tuple bound (map (stand_value w) p.stands) w)
+            (subst (λ ks. IsAlike c.first (with_tuple bound (map (stand_value x) p.stands) x) (with_tuple bound ks w)) tuple (with_tuple-alike bound (map (stand_value x) p.stands) c.first x w alike)))
+            ∙ told.1,
+      )
 
   zero-or : (n : ℕ) → n < 2 → (nat_eq n 1 ≡ false) → n ≡ 0
   zero-or zero l e = refl

@@ -2,7 +2,6 @@
 -- the one clause that stands for it beside the clauses of gates.
 use Rattle.std.specs.Prelude.{◌≡◌, ℕ, ◌<◌, ◌^◌, List, [], ◌∷◌, map, Some, slice_get}
 use Rattle.std.specs.List.{Contains}
-use Rattle.hk_term.specs.Shape.{IsWidth}
 use Rattle.hk_term.specs.declared.bounds.Bound.{Bound}
 use Rattle.hk_term.specs.declared.node.Node.{Node}
 use Rattle.hk_term.specs.declared.node.Node.TheVariants.{Const, Var, Select, Binary, Choose, Resize, ForAll}

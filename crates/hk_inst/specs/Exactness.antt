@@ -2,7 +2,7 @@
 --
 -- A list is exact where there are a term list with a goal, which has the value 1 under a reading exactly where the test accepts it, and a
 -- table from inputs to literals of the list with three properties. Each is a sentence of its own below.
-use Rattle.std.specs.Prelude.{◌≡◌, ◌≢◌, ℕ, ◌+◌, ◌<◌, ◌≤◌, Bool, false, true, nat_eq, List, [], length, map, ℤ, slice_get, Some}
+use Rattle.std.specs.Prelude.{◌≡◌, ◌≢◌, ℕ, ◌+◌, ◌<◌, ◌≤◌, Bool, false, true, nat_eq, List, length, map, ℤ, slice_get, Some}
 use Rattle.std.specs.List.{All, AllPairs, Contains, flat_map}
 use Rattle.hk_term.specs.Meaning.{Reading, value}
 use Rattle.hk_term.specs.declared.bounds.Bound.{Bound}

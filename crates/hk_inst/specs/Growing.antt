@@ -1,14 +1,14 @@
 -- What a question keeps while terms come into its table. The entries of the table are gone through one after another: the place of a read
 -- comes in, and a quantifier is opened. So many entries are done.
-use Rattle.std.specs.Prelude.{◌≡◌, ◌≢◌, ℕ, ◌+◌, ◌<◌, ◌≤◌, ◌⊎◌, Bool, true, false, nat_lt, List, length, reverse, take, slice_get, Some}
-use Rattle.std.specs.List.{All, AllPairs, Contains, list_all}
+use Rattle.std.specs.Prelude.{◌≡◌, ◌≢◌, ℕ, ◌+◌, ◌<◌, ◌≤◌, ◌⊎◌, ◌++◌, Bool, true, false, nat_lt, List, [], ◌∷◌, length, reverse, take, ℤ, slice_get, Some}
+use Rattle.std.specs.List.{All, AllPairs, Contains, list_all, flat_map}
 use Rattle.hk_term.specs.Shape.{AllFitIn, IsDistinct, width}
 use Rattle.hk_term.specs.declared.bounds.Bound.{Bound}
 use Rattle.hk_term.specs.declared.node.Node.{Node}
 use Rattle.hk_term.specs.declared.node.Node.TheVariants.{Select, ForAll}
 use Rattle.hk_copy.specs.Reach.{Reads, Frees, Tests, AllPass}
 use Rattle.hk_cnf.specs.Clauses.{clauses_value}
-use Rattle.hk_cnf.specs.Circuit.{Circuit}
+use Rattle.hk_cnf.specs.Circuit.{Circuit, gate_value}
 use Rattle.hk_cnf.specs.CircuitParts.{IsCircuit}
 use Rattle.hk_cnf.specs.Determined.{is_output}
 use Rattle.hk_cnf.specs.Required.{required_of}
@@ -16,7 +16,7 @@ use Rattle.hk_cnf.specs.Front.{IsFront}
 use Rattle.hk_blast.specs.Blasted.{Words, HasWord, Needs, Lengthens, input_places, AreBlasted}
 use Rattle.hk_inst.specs.declared.instance.Instance.{Instance}
 use Rattle.hk_inst.specs.declared.opening.Opening.{Opening}
-use Rattle.hk_inst.specs.Inputs.{Table}
+use Rattle.hk_inst.specs.Inputs.{Table, is_select, is_quantifier, IsNumbering}
 use Rattle.hk_inst.specs.Demanded.{IsOpening, IsMentioned}
 use Rattle.hk_inst.specs.Questions.{Asked, AreDemands, all_said, AreChosen}
 
@@ -82,3 +82,19 @@ pub record IsMade (nodes : List Node) (c d : Circuit) (old new : Words) (t : ℕ
   pub only : (k : ℕ) → HasWord new k → (HasWord old k) ⊎ (Needs nodes t k)
   pub there : HasWord new t
   pub inputs : (p : ℕ) → c.vars ≤ p → p < d.vars → is_output d.gates p ≡ false → Contains (input_places nodes new) p
+
+-- the circuit with one more clause
+pub record IsRequiring (c d : Circuit) (clause : List ℤ) : Type 0 where
+  pub circuit : IsCircuit d
+  pub vars : d.vars ≡ c.vars
+  pub gates : d.gates ≡ c.gates
+  pub keeps : (l : ℤ) (v : ℕ → Bool) → gate_value d l v ≡ gate_value c l v
+  pub beside : required_of d ≡ required_of c ++ clause ∷ []
+
+-- the numbers of reads and quantifiers, step by step
+pub record AreStepped (q : Asked) : Type 0 where
+  pub steps : List Words
+  pub steps_are : q.table.words ≡ flat_map (λ s. s) steps
+  pub each_step : length steps ≡ 1 + length q.instances
+  pub reads : IsNumbering q.nodes is_select steps q.table.reads
+  pub quantifiers : IsNumbering q.nodes is_quantifier steps q.table.quantifiers

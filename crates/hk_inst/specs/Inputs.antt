@@ -3,8 +3,8 @@
 -- The inputs are of four kinds: the bits of variables; the reads of arrays, each with its place and the bits of its value; the truth of
 -- each quantifier; and the bits of the tuple that makes a false quantifier false, which are those of variables of its own. All of them are
 -- terms, and the table has the literals of each term's bits: a read's place is the word of its index, its value its own word.
-use Rattle.std.specs.Prelude.{◌≡◌, ℕ, ◌<◌, Bool, false, true, ◌&&◌, ◌||◌, if◌then◌else◌, nat_eq, List, [], ◌∷◌, ◌++◌, length, Option, Some, None, slice_get, unwrap_or, option_map}
-use Rattle.std.specs.List.{All, AllPairs, Contains, list_any}
+use Rattle.std.specs.Prelude.{◌≡◌, ℕ, ◌<◌, Bool, false, true, ◌&&◌, if◌then◌else◌, nat_eq, List, [], ◌∷◌, ◌++◌, Option, Some, slice_get}
+use Rattle.std.specs.List.{AllPairs, Contains, list_any}
 use Rattle.hk_term.specs.Meaning.{Reading}
 use Rattle.hk_term.specs.declared.node.Node.{Node}
 use Rattle.hk_term.specs.declared.node.Node.TheVariants.{Var, Select, ForAll}

@@ -4,3 +4,4 @@ pub mod Demanded
 pub mod Exactness
 pub mod Questions
 pub mod Growing
+pub mod States

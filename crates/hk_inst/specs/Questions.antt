@@ -1,8 +1,9 @@
 -- What a question keeps: a term list with a goal, the circuit of what is required, the table, and the added instances with the terms that
 -- are required of them.
-use Rattle.std.specs.Prelude.{◌≡◌, ℕ, ◌+◌, ◌<◌, ◌≤◌, Bool, false, true, ◌&&◌, nat_eq, List, [], ◌∷◌, length, reverse, ℤ, slice_get, Some}
+use Rattle.std.specs.Prelude.{◌≡◌, ℕ, ◌+◌, ◌<◌, ◌≤◌, Bool, false, ◌&&◌, List, [], ◌∷◌, length, reverse, slice_get, Some}
 use Rattle.std.specs.List.{All, Contains, list_all}
 use Rattle.hk_term.specs.Shape.{AllFitIn, IsDistinct, width}
+use Rattle.hk_term.specs.declared.bounds.Bound.{Bound}
 use Rattle.hk_term.specs.declared.node.Node.{Node}
 use Rattle.hk_term.specs.declared.node.Node.TheVariants.{Var, Select}
 use Rattle.hk_copy.specs.declared.stand.Stand.{Stand}
@@ -47,6 +48,16 @@ abbrev pub AreVariables : ℕ → ℕ → List Stand → Type 0
 AreVariables first limit [] = first ≤ limit
 AreVariables first limit (Number n ∷ ss) = ⊥
 AreVariables first limit (Other width id ∷ ss) = (id ≡ first) × (width ≡ 64) × (AreVariables (first + 1) limit ss)
+
+-- such variables for bound ones, from an id on
+abbrev pub wide_from : List Bound → ℕ → List Stand
+wide_from [] first = []
+wide_from (b ∷ bs) first = Other 64 first ∷ wide_from bs (first + 1)
+
+-- the ids of bound variables with what they stand for, the outermost first
+abbrev pub pairs_from : List Bound → ℕ → List (ℕ × Stand)
+pairs_from [] first = []
+pairs_from (b ∷ bs) first = (b.id, Other 64 first) ∷ pairs_from bs (first + 1)
 
 -- the variables of a quantifier's tuple are new: when they were chosen, so many nodes stood in the list, with the goal, the quantifier and
 -- all earlier ones among them, and no variable among these nodes has such an id

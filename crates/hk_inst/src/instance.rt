@@ -1,5 +1,8 @@
 //! Instances: what is known of reads and quantifiers beside their bits.
 
+ghost use Rattle.std.specs.Prelude.{◌≡◌, []};
+
+use std::alloc::Global;
 use std::marker::Model;
 
 /// A tuple of numbers, one for each bound variable of a quantifier, the outermost first. A contract sees a list.
@@ -20,15 +23,9 @@ impl Model for SizeList {
 #[derive(Debug, Drop)]
 pub enum Instance {
     /// Two reads of one array: their values agree where their places are equal.
-    Pair {
-        a: u64,
-        b: u64,
-    },
+    Pair { a: u64, b: u64 },
     /// A quantifier with a tuple: it is false, or its body is true at the tuple.
-    Tuple {
-        quantifier: u64,
-        indices: SizeList,
-    },
+    Tuple { quantifier: u64, indices: SizeList },
 }
 
 /// Instances, in the order in which they were added. A contract sees a list.
@@ -44,4 +41,22 @@ impl Model for InstanceList {
     ghost Value = { List Instance };
 
     ghost view = { λ l. l.items.items };
+}
+
+impl InstanceList {
+    /// No instance. It takes no memory.
+    pub fn new(alloc: Global) -> InstanceList
+        ensures { result ≡ [] }
+    {
+        InstanceList {
+            items: Vec::new(alloc),
+        }
+    }
+
+    /// The instances, lent.
+    pub fn as_slice(&self) -> &[Instance]
+        ensures { result.now ≡ self.now }
+    {
+        self.items.as_slice()
+    }
 }

@@ -4,8 +4,16 @@
 //! with a goal, and instances; what goes out is a clause list that is exact for both: `specs/Exactness.antt` says what that is.
 #![tactic(auto)]
 
+mod growth;
 mod instance;
 pub mod laws;
+mod numbering;
 mod opening;
+mod prepare;
+mod question;
+mod required;
+mod start;
+mod state;
 
 pub use instance::{Instance, InstanceList, SizeList};
+pub use question::Question;

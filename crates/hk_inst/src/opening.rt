@@ -7,7 +7,7 @@ use std::marker::Model;
 // What bound variables stand for, the outermost first. A contract sees a list.
 #[derive(Debug, Drop)]
 pub(crate) struct StandList {
-    items: Vec<Stand>,
+    pub(crate) items: Vec<Stand>,
 }
 
 impl Model for StandList {
