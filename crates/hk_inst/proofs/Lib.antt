@@ -3,7 +3,7 @@ pub mod LikeReadings
 pub mod RequiredTerms
 pub mod Settled
 pub mod Members
-pub mod Completion
+pub mod CompletedCases
 pub mod QuestionFacts
 pub mod ToCase
 pub mod ChosenBits
@@ -19,3 +19,4 @@ pub mod StateSteps
 pub mod FoundTerms
 pub mod Beginning
 pub mod KeptQuestions
+pub mod SetNumbers

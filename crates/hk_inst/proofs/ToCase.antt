@@ -25,7 +25,7 @@ use Rattle.hk_inst.specs.Truths.{IsTuple, IsTrue, is_among}
 use Rattle.hk_inst.specs.Demanded.{IsOpening, IsDemand}
 use Rattle.hk_inst.specs.Questions.{Asked, IsQuestion}
 use Rattle.hk_inst.proofs.Members.{variable-node, read-node, index_of, bound_of, body_of, node-once, among-contains, numbered-all, at-place, of-all}
-use Rattle.hk_inst.proofs.Completion.{variable-found, entry-found}
+use Rattle.hk_inst.proofs.CompletedCases.{variable-found, entry-found}
 use Rattle.hk_inst.proofs.RequiredTerms.{Local, agreement-says, implication-says, choice-says}
 use Rattle.hk_inst.proofs.Settled.{IsOpened, Fits, settled}
 use Rattle.hk_inst.proofs.QuestionFacts.{known-within, refutation-body, gates-hold, all-hold, local, below-width, goal-one, opening-one, demand-one}

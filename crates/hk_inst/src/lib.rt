@@ -4,6 +4,7 @@
 //! with a goal, and instances; what goes out is a clause list that is exact for both: `specs/Exactness.antt` says what that is.
 #![tactic(auto)]
 
+mod completion;
 mod growth;
 mod instance;
 pub mod laws;

@@ -1,14 +1,19 @@
 //! Questions.
 
-ghost use Rattle.std.specs.Prelude.{◌≡◌, ℕ, ◌<◌, [], nat_eq, length, IfOk};
+ghost use Rattle.std.specs.Prelude.{◌≡◌, ◌<◌, [], false, true, nat_eq, length, IfOk};
 ghost use Rattle.hk_term.specs.Meaning.{Reading, reading_of, value};
+ghost use Rattle.hk_cnf.specs.Clauses.{clauses_value};
+ghost use Rattle.hk_inst.specs.declared.instance.Instance.{Instance};
+ghost use Rattle.hk_inst.specs.Inputs.{number_in, completed};
+ghost use Rattle.hk_inst.specs.Truths.{IsTrue, is_among};
 ghost use Rattle.hk_inst.specs.Exactness.{Exact};
 ghost use Rattle.hk_inst.specs.Growing.{IsGoal};
 
+use crate::completion::completion;
 use crate::instance::InstanceList;
 use crate::start::{holds, made};
 use crate::state::State;
-use hk_cnf::ClauseList;
+use hk_cnf::{Assignment, ClauseList};
 use hk_term::{TermId, Terms, Valuation};
 use std::alloc::{AllocError, Global};
 use std::marker::Model;
@@ -67,6 +72,19 @@ impl Question {
     {
         let terms = &self.state.terms;
         holds(alloc, terms, self.state.goal, v)
+    }
+
+    /// The case that an assignment gives through the table: each variable and each place of an array has the number that the
+    /// first term of the table has for it, and 0 where none does. The variables that stand for tuples have theirs too. The
+    /// assignment satisfies the clauses. Where every other instance is true under it, the goal is true in that case.
+    pub fn complete(&self, alloc: Global, a: &Assignment) -> Result<Valuation, AllocError>
+        requires size { length a.now ≡ self.now.circuit.vars }
+        requires satisfied { clauses_value a.now self.now.circuit.clauses ≡ true }
+        ensures reading { IfOk result (λ v. reading_of v ≡ completed self.now.nodes self.now.table (number_in self.now.table.words a.now)) }
+        ensures decides { IfOk result (λ v. ((i : Instance) → is_among self.now.instances i ≡ false → IsTrue self.now.nodes self.now.table (number_in self.now.table.words a.now) (reading_of v) i) → value self.now.nodes self.now.goal (reading_of v) ≡ 1) }
+    {
+        let case = completion(alloc, &self.state, a)?;
+        Ok(case)
     }
 
     /// The instances and the clauses. It spends the question and takes no memory.
