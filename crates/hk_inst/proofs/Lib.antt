@@ -20,3 +20,4 @@ pub mod FoundTerms
 pub mod Beginning
 pub mod KeptQuestions
 pub mod SetNumbers
+pub mod TestedGoals

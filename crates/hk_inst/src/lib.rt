@@ -18,3 +18,6 @@ mod state;
 
 pub use instance::{Instance, InstanceList, SizeList};
 pub use question::Question;
+
+#[cfg(test)]
+mod tests;

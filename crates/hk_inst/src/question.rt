@@ -19,8 +19,8 @@ use std::alloc::{AllocError, Global};
 use std::marker::Model;
 
 /// A goal term with a clause list and the instances that were added. At every moment the clauses are exact for the goal and
-/// the instances. Clauses see what a question keeps: its terms with the goal, its circuit, its table and its instances.
-#[derive(Drop)]
+/// the instances. Clauses see what a question keeps: its terms with the goal, its circuit, its table and its instances. It
+/// is not let go: `into_parts` ends it.
 pub struct Question {
     state: State,
 }
@@ -39,7 +39,8 @@ impl Model for Question {
 impl Question {
     /// The question whether some reading makes a goal true: a truth value in which all free variables of one id have one
     /// width, and all reads of one array have one width. It has no instance. Its reads and quantifiers are numbered in the
-    /// order of the list of terms.
+    /// order of the list of terms. Each term that the goal reaches is blasted once, and the body of each quantifier is copied
+    /// once; the list of terms is gone through once. Where ids of 32 bits are used up it is want of memory.
     pub fn new(alloc: Global, terms: Terms, goal: TermId) -> Result<Question, AllocError>
         requires there { goal < length terms }
         requires goal { IsGoal terms goal }
@@ -76,7 +77,8 @@ impl Question {
 
     /// The case that an assignment gives through the table: each variable and each place of an array has the number that the
     /// first term of the table has for it, and 0 where none does. The variables that stand for tuples have theirs too. The
-    /// assignment satisfies the clauses. Where every other instance is true under it, the goal is true in that case.
+    /// assignment satisfies the clauses. Where every other instance is true under it, the goal is true in that case. Each
+    /// entry of the table and each read is gone through once.
     pub fn complete(&self, alloc: Global, a: &Assignment) -> Result<Valuation, AllocError>
         requires size { length a.now ≡ self.now.circuit.vars }
         requires satisfied { clauses_value a.now self.now.circuit.clauses ≡ true }
