@@ -1,0 +1,7 @@
+pub mod Inputs
+pub mod Truths
+pub mod Demanded
+pub mod Exactness
+pub mod Questions
+pub mod Growing
+pub mod States

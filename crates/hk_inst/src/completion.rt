@@ -1,0 +1,155 @@
+//! The case that is read from an assignment through the table.
+
+ghost use Rattle.std.specs.Prelude.{◌≡◌, ℕ, ◌<◌, ◌≤◌, ◌^◌, if◌then◌else◌, length, slice_get, Some, IfOk, OnOk};
+ghost use Rattle.std.specs.List.{All};
+ghost use Rattle.hk_term.specs.Meaning.{reading_of};
+ghost use Rattle.hk_term.specs.Tables.{number_at, entry_at};
+ghost use Rattle.hk_cnf.specs.Literal.{IsWithin, value_at};
+ghost use Rattle.hk_blast.specs.Blasted.{word_in, word_number, HasWord};
+ghost use Rattle.hk_inst.specs.Inputs.{is_variable, is_read_at, number_in, variable_number, entry_number, completed};
+ghost use Rattle.hk_inst.specs.States.{asked_of, IsKept};
+
+use crate::state::State;
+use hk_blast::BitTable;
+use hk_cnf::{Assignment, Lit};
+use hk_term::{ArrayTable, Node, NumberTable, TermId, Terms, Valuation};
+use std::alloc::{AllocError, Global};
+
+// What the values make of a literal.
+fn value(values: &[bool], lit: Lit) -> bool
+    requires { IsWithin (length values.now) lit }
+    ensures { result ≡ value_at values.now lit }
+{
+    values[lit.place() as usize] != lit.is_negation()
+}
+
+// The number of a word, least bit first.
+fn number(values: &[bool], word: &[Lit]) -> u64
+    requires short { length word.now ≤ 64 }
+    requires within { All (IsWithin (length values.now)) word.now }
+    ensures number { result ≡ word_number values.now word.now }
+    ensures below { result < 2 ^ length word.now }
+{
+    match word {
+        [] => 0,
+        [lit, rest @ ..] => u64::from(value(values, *lit)) + 2 * number(values, rest),
+    }
+}
+
+// The number of a term.
+fn number_of(values: &[bool], bits: &BitTable, t: TermId) -> u64
+    requires short { (k : ℕ) → length (word_in bits.now k) ≤ 64 }
+    requires within { (k : ℕ) → All (IsWithin (length values.now)) (word_in bits.now k) }
+    ensures { result ≡ number_in bits.now values.now t }
+{
+    match bits.get(t) {
+        Some(word) => number(values, word),
+        None => 0,
+    }
+}
+
+// A variable has a number; another term sets nothing.
+fn set_variable(vars: &mut NumberTable, node: &Node, number: u64) -> Result<(), AllocError>
+    ensures { OnOk result ((id : ℕ) → number_at vars.new id ≡ (if is_variable (Some node.now) id then number else number_at vars.old id)) }
+{
+    match node {
+        Node::Var { id, .. } => vars.set(*id, number),
+        Node::Const { .. } => Ok(()),
+        Node::Select { .. } => Ok(()),
+        Node::Unary { .. } => Ok(()),
+        Node::Binary { .. } => Ok(()),
+        Node::Choose { .. } => Ok(()),
+        Node::Resize { .. } => Ok(()),
+        Node::ForAll { .. } => Ok(()),
+    }
+}
+
+// A read has a number, at the number of its index; another term sets nothing.
+fn set_entry(
+    arrays: &mut ArrayTable,
+    node: &Node,
+    values: &[bool],
+    bits: &BitTable,
+    number: u64,
+) -> Result<(), AllocError>
+    requires short { (k : ℕ) → length (word_in bits.now k) ≤ 64 }
+    requires within { (k : ℕ) → All (IsWithin (length values.now)) (word_in bits.now k) }
+    ensures { OnOk result ((array place : ℕ) → entry_at arrays.new array place ≡ (if is_read_at (Some node.now) (number_in bits.now values.now) array place then number else entry_at arrays.old array place)) }
+{
+    match node {
+        Node::Select { array, index, .. } => {
+            let place = number_of(values, bits, *index);
+            arrays.set(*array, place, number)
+        }
+        Node::Const { .. } => Ok(()),
+        Node::Var { .. } => Ok(()),
+        Node::Unary { .. } => Ok(()),
+        Node::Binary { .. } => Ok(()),
+        Node::Choose { .. } => Ok(()),
+        Node::Resize { .. } => Ok(()),
+        Node::ForAll { .. } => Ok(()),
+    }
+}
+
+// The numbers of variables: of two terms with one id the first of the table counts.
+pub(crate) fn variables(
+    alloc: Global,
+    terms: &Terms,
+    bits: &BitTable,
+    values: &[bool],
+) -> Result<NumberTable, AllocError>
+    requires there { (k : ℕ) → HasWord bits.now k → k < length terms.now }
+    requires short { (k : ℕ) → length (word_in bits.now k) ≤ 64 }
+    requires within { (k : ℕ) → All (IsWithin (length values.now)) (word_in bits.now k) }
+    ensures { IfOk result (λ vars. (id : ℕ) → number_at vars id ≡ variable_number terms.now (number_in bits.now values.now) bits.now id) }
+{
+    let mut vars = NumberTable::new(alloc);
+    let mut i = bits.len();
+    while i > 0 {
+        i -= 1;
+        let t = bits.at(i);
+        set_variable(&mut vars, terms.node(t), number_of(values, bits, t))?;
+    }
+    Ok(vars)
+}
+
+// The numbers of the entries that are read: of two reads at one place the first counts.
+pub(crate) fn entries(
+    alloc: Global,
+    terms: &Terms,
+    bits: &BitTable,
+    reads: &[u64],
+    values: &[bool],
+) -> Result<ArrayTable, AllocError>
+    requires there { All (λ t. t < length terms.now) reads.now }
+    requires short { (k : ℕ) → length (word_in bits.now k) ≤ 64 }
+    requires within { (k : ℕ) → All (IsWithin (length values.now)) (word_in bits.now k) }
+    ensures { IfOk result (λ arrays. (array place : ℕ) → entry_at arrays array place ≡ entry_number terms.now (number_in bits.now values.now) reads.now array place) }
+{
+    let mut arrays = ArrayTable::new(alloc);
+    let mut i = reads.len();
+    while i > 0 {
+        i -= 1;
+        let t = TermId::at(reads[i]);
+        set_entry(
+            &mut arrays,
+            terms.node(t),
+            values,
+            bits,
+            number_of(values, bits, t),
+        )?;
+    }
+    Ok(arrays)
+}
+
+// The completed case.
+pub(crate) fn completion(alloc: Global, s: &State, a: &Assignment) -> Result<Valuation, AllocError>
+    requires kept { IsKept s.now }
+    requires size { length a.now ≡ s.now.gates.vars }
+    ensures { IfOk result (λ v. reading_of v ≡ completed s.now.terms (asked_of s.now).table (number_in s.now.bits a.now)) }
+{
+    let values = a.as_slice();
+    let vars = variables(alloc, &s.terms, &s.bits, values)?;
+    let arrays = entries(alloc, &s.terms, &s.bits, s.reads.as_slice(), values)?;
+    Ok(Valuation { vars, arrays })
+}

@@ -1,0 +1,62 @@
+//! Instances: what is known of reads and quantifiers beside their bits.
+
+ghost use Rattle.std.specs.Prelude.{◌≡◌, []};
+
+use std::alloc::Global;
+use std::marker::Model;
+
+/// A tuple of numbers, one for each bound variable of a quantifier, the outermost first. A contract sees a list.
+#[derive(Debug, Drop)]
+pub struct SizeList {
+    items: Vec<u64>,
+}
+
+impl Model for SizeList {
+    ghost use Rattle.std.specs.Prelude.{List, ℕ};
+
+    ghost Value = { List ℕ };
+
+    ghost view = { λ l. l.items.items };
+}
+
+/// A fact that holds of each reading, over the numbers of reads and quantifiers.
+#[derive(Debug, Drop)]
+pub enum Instance {
+    /// Two reads of one array: their values agree where their places are equal.
+    Pair { a: u64, b: u64 },
+    /// A quantifier with a tuple: it is false, or its body is true at the tuple.
+    Tuple { quantifier: u64, indices: SizeList },
+}
+
+/// Instances, in the order in which they were added. A contract sees a list.
+#[derive(Debug, Drop)]
+pub struct InstanceList {
+    items: Vec<Instance>,
+}
+
+impl Model for InstanceList {
+    ghost use Rattle.std.specs.Prelude.{List};
+    ghost use Rattle.hk_inst.specs.declared.instance.Instance.{Instance};
+
+    ghost Value = { List Instance };
+
+    ghost view = { λ l. l.items.items };
+}
+
+impl InstanceList {
+    /// No instance. It takes no memory.
+    pub fn new(alloc: Global) -> InstanceList
+        ensures { result ≡ [] }
+    {
+        InstanceList {
+            items: Vec::new(alloc),
+        }
+    }
+
+    /// The instances, lent.
+    pub fn as_slice(&self) -> &[Instance]
+        ensures { result.now ≡ self.now }
+    {
+        self.items.as_slice()
+    }
+}

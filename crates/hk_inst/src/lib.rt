@@ -1,0 +1,23 @@
+//! Questions: whether some reading makes a goal term true, as clauses that grow by instances of reads and quantifiers.
+//!
+//! It stands above terms, their copies and their circuits, and below the deciding loop. What comes in are a list of terms
+//! with a goal, and instances; what goes out is a clause list that is exact for both: `specs/Exactness.antt` says what that is.
+#![tactic(auto)]
+
+mod completion;
+mod growth;
+mod instance;
+pub mod laws;
+mod numbering;
+mod opening;
+mod prepare;
+mod question;
+mod required;
+mod start;
+mod state;
+
+pub use instance::{Instance, InstanceList, SizeList};
+pub use question::Question;
+
+#[cfg(test)]
+mod tests;

@@ -1,0 +1,106 @@
+//! Questions.
+
+ghost use Rattle.std.specs.Prelude.{◌≡◌, ◌<◌, [], false, true, nat_eq, length, IfOk};
+ghost use Rattle.hk_term.specs.Meaning.{Reading, reading_of, value};
+ghost use Rattle.hk_cnf.specs.Clauses.{clauses_value};
+ghost use Rattle.hk_inst.specs.declared.instance.Instance.{Instance};
+ghost use Rattle.hk_inst.specs.Inputs.{number_in, completed};
+ghost use Rattle.hk_inst.specs.Truths.{IsTrue, is_among};
+ghost use Rattle.hk_inst.specs.Exactness.{Exact};
+ghost use Rattle.hk_inst.specs.Growing.{IsGoal};
+
+use crate::completion::completion;
+use crate::instance::InstanceList;
+use crate::start::{holds, made};
+use crate::state::State;
+use hk_cnf::{Assignment, ClauseList};
+use hk_term::{TermId, Terms, Valuation};
+use std::alloc::{AllocError, Global};
+use std::marker::Model;
+
+/// A goal term with a clause list and the instances that were added. At every moment the clauses are exact for the goal and
+/// the instances. Clauses see what a question keeps: its terms with the goal, its circuit, its table and its instances. It
+/// is not let go: `into_parts` ends it.
+pub struct Question {
+    state: State,
+}
+
+impl Model for Question {
+    ghost use Rattle.hk_inst.specs.Questions.{Asked};
+    ghost use Rattle.hk_inst.specs.States.{asked_of, IsKept};
+
+    ghost Value = { Asked };
+
+    ghost view = { λ q. asked_of q.state };
+
+    ghost invariant = { λ q. IsKept q.state };
+}
+
+impl Question {
+    /// The question whether some reading makes a goal true: a truth value in which all free variables of one id have one
+    /// width, and all reads of one array have one width. It has no instance. Its reads and quantifiers are numbered in the
+    /// order of the list of terms. Each term that the goal reaches is blasted once, and the body of each quantifier is copied
+    /// once; the list of terms is gone through once. Where ids of 32 bits are used up it is want of memory.
+    pub fn new(alloc: Global, terms: Terms, goal: TermId) -> Result<Question, AllocError>
+        requires there { goal < length terms }
+        requires goal { IsGoal terms goal }
+        ensures instances { IfOk result (λ q. q.instances ≡ []) }
+        ensures goal { IfOk result (λ q. (v : Reading) → value q.nodes q.goal v ≡ value terms goal v) }
+        ensures exact { IfOk result (λ q. Exact (λ v. nat_eq (value terms goal v) 1) [] (record { vars = q.circuit.vars; clauses = q.circuit.clauses })) }
+    {
+        let state = made(alloc, terms, goal)?;
+        Ok(Question { state })
+    }
+
+    /// The clauses.
+    pub fn clauses(&self) -> &ClauseList
+        ensures same { result.now ≡ record { vars = self.now.circuit.vars; clauses = self.now.circuit.clauses } }
+        ensures exact { Exact (λ v. nat_eq (value self.now.nodes self.now.goal v) 1) self.now.instances result.now }
+    {
+        self.state.gates.clauses()
+    }
+
+    /// The instances that were added, in their order.
+    pub fn instances(&self) -> &InstanceList
+        ensures { result.now ≡ self.now.instances }
+    {
+        &self.state.instances
+    }
+
+    /// Whether the goal is true under a valuation.
+    pub fn goal_holds(&self, alloc: Global, v: &Valuation) -> Result<bool, AllocError>
+        ensures { IfOk result (λ b. b ≡ nat_eq (value self.now.nodes self.now.goal (reading_of v.now)) 1) }
+    {
+        let terms = &self.state.terms;
+        holds(alloc, terms, self.state.goal, v)
+    }
+
+    /// The case that an assignment gives through the table: each variable and each place of an array has the number that the
+    /// first term of the table has for it, and 0 where none does. The variables that stand for tuples have theirs too. The
+    /// assignment satisfies the clauses. Where every other instance is true under it, the goal is true in that case. Each
+    /// entry of the table and each read is gone through once.
+    pub fn complete(&self, alloc: Global, a: &Assignment) -> Result<Valuation, AllocError>
+        requires size { length a.now ≡ self.now.circuit.vars }
+        requires satisfied { clauses_value a.now self.now.circuit.clauses ≡ true }
+        ensures reading { IfOk result (λ v. reading_of v ≡ completed self.now.nodes self.now.table (number_in self.now.table.words a.now)) }
+        ensures decides { IfOk result (λ v. ((i : Instance) → is_among self.now.instances i ≡ false → IsTrue self.now.nodes self.now.table (number_in self.now.table.words a.now) (reading_of v) i) → value self.now.nodes self.now.goal (reading_of v) ≡ 1) }
+    {
+        let case = completion(alloc, &self.state, a)?;
+        Ok(case)
+    }
+
+    /// The instances and the clauses. It spends the question and takes no memory.
+    pub fn into_parts(self) -> (InstanceList, ClauseList)
+        ensures instances { result.0 ≡ self.instances }
+        ensures clauses { result.1 ≡ record { vars = self.circuit.vars; clauses = self.circuit.clauses } }
+        ensures exact { Exact (λ v. nat_eq (value self.nodes self.goal v) 1) result.0 result.1 }
+    {
+        let Question { state } = self;
+        let State {
+            gates,
+            instances,
+            ..
+        } = state;
+        (instances, gates.into_clauses())
+    }
+}
