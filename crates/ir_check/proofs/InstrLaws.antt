@@ -1,5 +1,5 @@
 -- The least rule of an instruction: the rule of arms is the last.
-use Rattle.std.proofs.Common.{◌≡◌, ◌⊎◌, inl, inr, ℕ, ◌≤◌, Bool, true, false, Option, Some, None, List, [], ◌∷◌, map, refl, sym, ◌∙◌, ap, subst, arith}
+use Rattle.std.proofs.Common.{◌≡◌, ◌⊎◌, inl, inr, ℕ, Bool, true, false, Option, Some, None, List, [], ◌∷◌, map, refl, sym, ◌∙◌, ap, subst, arith}
 use Rattle.std.specs.Prelude.{MatchBool, bytes_eq, slice_get, Contains}
 use Rattle.std.specs.List.{IsDistinct}
 use Rattle.std.proofs.lemmas.Bool.{cases_Bool}
@@ -8,7 +8,7 @@ use Rattle.ir_ast.specs.Table.{names_of, place_of}
 use Rattle.ir_ast.specs.ProgramView.{view_arms}
 use Rattle.ir_ast.specs.declared.operand.Operand.{Operand}
 use Rattle.ir_ast.specs.declared.fault.KernelReason.{KernelReason}
-use Rattle.ir_ast.specs.Program.{Act, phi, InstrView, BlockView, FunctionView, ModuleView}
+use Rattle.ir_ast.specs.Program.{phi, InstrView, BlockView, FunctionView, ModuleView}
 use Rattle.ir_type.specs.Items.{Rule, K8, K15, number_of}
 use Rattle.ir_type.specs.Whole.{Types}
 use Rattle.ir_typing.specs.Known.{is_known}
