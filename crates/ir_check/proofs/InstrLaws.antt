@@ -31,9 +31,6 @@ whole_least Falls plain found none least arms = by found arms
     by None h = λ q p. h (subst Falls (only q p) p)
     by (Some s) (is, falls) = (K15, is, falls, λ q p. let same = ap number_of (only q p) in omega arith)
 
-pub plain_least : (Falls : Rule → Type 0) (plain : Option KernelReason) (s : KernelReason) → plain ≡ Some s → IsLeastPlain Falls plain → IsLeastReason Falls (Some s)
-plain_least Falls plain s some least = subst (IsLeastPlain Falls) some least
-
 -- where no other rule is met, the names are known
 pub plain_known : (m : ModuleView) (f : FunctionView) (b : BlockView) (before : List InstrView) (i : InstrView) (plain : Option KernelReason) → plain ≡ None → IsLeastPlain (InstrFalls m f b before i) plain
     → is_known m f i.act ≡ true

@@ -19,9 +19,6 @@ use Rattle.ir_check.proofs.SiteLaws.{get_at, contains_at}
 
 -- ---- several parts
 
-pub least_of_none : (P : ℕ → Faults) → IsLeast (AmongFirst P 0) None
-least_of_none P l r (k, below, p) = absurd (omega arith)
-
 pub least_more : (P : ℕ → Faults) (n : ℕ) (a b : Option KernelFault) → IsLeast (AmongFirst P n) a → IsLeast (P n) b → IsLeast (AmongFirst P (n + 1)) (least_of a b)
 least_more P n a b first next = least_same (Either (AmongFirst P n) (P n)) (AmongFirst P (n + 1)) (least_of a b) (least_joins (AmongFirst P n) (P n) a b first next) to from
   where
