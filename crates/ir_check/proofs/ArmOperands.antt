@@ -1,17 +1,14 @@
 -- Each arm against the first arm from its block, by places, and what that says of all arms by names.
-use Rattle.std.proofs.Common.{◌≡◌, ◌⊎◌, inl, inr, ℕ, zero, suc, ◌+◌, ◌<◌, ◌≤◌, Bool, true, false, cond, Option, Some, None, option_map, List, [], ◌∷◌, ◌++◌, map, length, take, position, nat_eq, refl, sym, ◌∙◌, ap, subst, arith}
-use Rattle.std.specs.Prelude.{option_to_list, option_and_then, bytes_eq, slice_get, slice_index_or, MatchBool}
+use Rattle.std.proofs.Common.{◌≡◌, ◌⊎◌, inl, inr, ℕ, zero, suc, ◌+◌, Bool, true, false, cond, Option, Some, None, option_map, List, [], ◌∷◌, ◌++◌, map, position, nat_eq, refl, sym, ◌∙◌, ap, subst, arith}
+use Rattle.std.specs.Prelude.{option_to_list, option_and_then, bytes_eq, slice_get, MatchBool}
 use Rattle.std.specs.List.{All, Contains, IsDistinct, position_from}
 use Rattle.std.proofs.lemmas.Bool.{cases_Bool}
-use Rattle.std.proofs.lemmas.Slice.Eq.{bytes_eq-Decides}
-use Rattle.std.proofs.lemmas.List.{take_all}
 use Rattle.std.proofs.lemmas.List.Elements.{All-contains, Contains-append_right}
 use Rattle.std.proofs.lemmas.Option.{slice_get-map}
 use Rattle.std.proofs.lemmas.Iterator.Adapters.{position_from-zero}
 use Rattle.ir_ast.specs.Plain.{Ty, Val}
 use Rattle.ir_ast.specs.Program.{BlockView, FunctionView}
 use Rattle.ir_ast.specs.Table.{names_of, place_of}
-use Rattle.ir_ast.specs.View.{view_operand}
 use Rattle.ir_ast.specs.ProgramView.{view_arms}
 use Rattle.ir_ast.specs.declared.operand.Operand.{Operand}
 use Rattle.ir_type.specs.Whole.{Types, meant}
@@ -22,8 +19,8 @@ use Rattle.ir_check.specs.Graphs.{named_blocks, places_among}
 use Rattle.ir_check.specs.Sites.{AreSources}
 use Rattle.ir_check.specs.Tallies.{agree}
 use Rattle.ir_check.proofs.ArmLaws.{bytes_same, same_test, names_viewed, counts_told}
-use Rattle.ir_check.proofs.SiteLaws.{get_at, contains_at}
-use Rattle.ir_check.proofs.Undefined.{Contains-map, of_map}
+use Rattle.ir_check.proofs.SiteLaws.{contains_at}
+use Rattle.ir_check.proofs.Undefined.{Contains-map}
 use Rattle.ir_check.proofs.UseLaws.{if_true, if_false}
 use Rattle.ir_check.proofs.Taken.{all_from}
 

@@ -1,5 +1,5 @@
 -- The least fault of a body, instruction by instruction and block by block.
-use Rattle.std.proofs.Common.{◌≡◌, ℕ, ◌+◌, ◌<◌, ◌≤◌, Bool, Option, Some, None, List, length, map, take, refl, sym, ◌∙◌, ap, subst, arith}
+use Rattle.std.proofs.Common.{◌≡◌, ℕ, ◌+◌, ◌<◌, ◌≤◌, Bool, Option, Some, List, length, take, sym, ◌∙◌, ap, subst, arith}
 use Rattle.std.specs.Prelude.{◌&&◌, slice_get}
 use Rattle.std.specs.List.{list_all}
 use Rattle.ir_ast.specs.declared.fault.KernelFault.{KernelFault}
@@ -10,7 +10,7 @@ use Rattle.ir_typing.specs.Fits.{is_phi}
 use Rattle.ir_check.specs.Rules.{InstrFalls}
 use Rattle.ir_check.specs.Least.{Faults, IsLeast, least_of}
 use Rattle.ir_check.specs.ItemFaults.{IsLeastReason, ItemFaults, on_line}
-use Rattle.ir_check.specs.Parts.{AmongFirst, AmongAll, OfPlace, InstrFaultsAt, BlockFaultsAt, BodyFaults}
+use Rattle.ir_check.specs.Parts.{AmongFirst, AmongAll, InstrFaultsAt, BlockFaultsAt, BodyFaults}
 use Rattle.ir_check.proofs.ItemLaws.{item_least}
 use Rattle.ir_check.proofs.PartLaws.{least_more, least_all, least_at, place_below}
 use Rattle.ir_check.proofs.Taken.{list_all_next}

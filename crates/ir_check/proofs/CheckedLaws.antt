@@ -1,24 +1,24 @@
 -- What no fault says of a module: what is kept of its functions, and the facts that it carries.
-use Rattle.std.proofs.Common.{◌≡◌, ◌⊎◌, inl, inr, ℕ, zero, suc, ◌<◌, ◌≤◌, eqb, Bool, true, false, Option, Some, None, List, [], ◌∷◌, ◌++◌, length, map, take, refl, sym, ◌∙◌, ap, subst, arith}
-use Rattle.std.specs.Prelude.{Contains, slice_get, slice_index_or, flat_map, option_to_list, bytes_eq, sum, min, count_by, unwrap_or, is_some, option_and_then, if◌then◌else◌}
+use Rattle.std.proofs.Common.{◌≡◌, ◌⊎◌, inl, inr, ℕ, zero, suc, ◌<◌, ◌≤◌, eqb, Bool, true, false, Option, Some, None, List, [], ◌∷◌, length, map, take, refl, sym, ◌∙◌, ap, subst, arith}
+use Rattle.std.specs.Prelude.{Contains, slice_get, slice_index_or, flat_map, option_to_list, bytes_eq, sum, count_by, unwrap_or, is_some, option_and_then, if◌then◌else◌}
 use Rattle.std.proofs.lemmas.Bool.{cases_Bool, cases_lt, eqb-true, eqb-false}
 use Rattle.std.proofs.lemmas.List.{append-nil}
 use Rattle.std.proofs.lemmas.List.Elements.{Contains-append_right}
 use Rattle.std.proofs.lemmas.Slice.Eq.{bytes_eq-Decides}
-use Rattle.ir_ast.specs.Plain.{Ty, Val}
-use Rattle.ir_ast.specs.Program.{Act, phi, InstrView, BlockView, FunctionView, ModuleView}
+use Rattle.ir_ast.specs.Plain.{Val}
+use Rattle.ir_ast.specs.Program.{InstrView, BlockView, FunctionView, ModuleView}
 use Rattle.ir_ast.specs.Table.{place_of}
-use Rattle.hk_graph.specs.Walks.{Walks, Leads, IsOnCycle}
+use Rattle.hk_graph.specs.Walks.{Leads, IsOnCycle}
 use Rattle.hk_flow.specs.Sums.{told}
 use Rattle.ir_type.specs.Rows.{callees}
-use Rattle.ir_type.specs.Items.{Item, function_item, instr_item, IsItem, IsFunction, Rule, K10, K11, K12, K14, K15}
+use Rattle.ir_type.specs.Items.{function_item, instr_item, IsItem, IsFunction, K10, K11, K12, K14, K15}
 use Rattle.ir_type.specs.Shape.{IsShaped}
 use Rattle.ir_type.specs.Names.{entry_of}
 use Rattle.ir_type.proofs.Places.{at_place, no_place, get_below, some_same}
 use Rattle.ir_typing.specs.Registers.{blocks_of, function_of}
-use Rattle.ir_check.specs.Paths.{targets_of, HasEdge, IsEntry, Use, uses, set_along, HasCall, body_of, weight, IsLength, FallsK10}
-use Rattle.ir_check.specs.Arms.{times, MeetsCounts, MeetsEdges, FallsK15}
-use Rattle.ir_check.specs.Graphs.{LeadsToCycle, SaysLength, name_of_entry}
+use Rattle.ir_check.specs.Paths.{targets_of, set_along, HasCall, body_of, weight, IsLength}
+use Rattle.ir_check.specs.Arms.{times, FallsK15}
+use Rattle.ir_check.specs.Graphs.{SaysLength, name_of_entry}
 use Rattle.ir_ast.specs.declared.fault.KernelFault.{KernelFault}
 use Rattle.ir_check.specs.Answers.{IsRefusal, find_body}
 use Rattle.ir_check.specs.ItemFaults.{AreCalls}

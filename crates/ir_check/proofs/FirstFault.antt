@@ -1,14 +1,13 @@
 -- The first item that fails: there is at most one, with it the module is not well formed, and the least of what several walks over the
 -- items saw is it.
-use Rattle.std.proofs.Common.{◌≡◌, ◌⊎◌, inl, inr, ℕ, ◌<◌, ◌≤◌, ◌||◌, ◌&&◌, Bool, true, false, cond, eqb, nat_lt, nat_le, Option, Some, None, List, refl, sym, ◌∙◌, ap, subst, arith}
+use Rattle.std.proofs.Common.{◌≡◌, ◌⊎◌, inl, inr, ℕ, ◌<◌, ◌≤◌, ◌||◌, ◌&&◌, Bool, true, false, cond, eqb, nat_lt, nat_le, Option, Some, None, refl, sym, ◌∙◌, ap, subst, arith}
 use Rattle.std.specs.Prelude.{◌==◌, if◌then◌else◌}
 use Rattle.std.proofs.lemmas.Bool.{cases_Bool}
-use Rattle.ir_ast.specs.Program.{InstrView, BlockView, FunctionView, ModuleView}
+use Rattle.ir_ast.specs.Program.{ModuleView}
 use Rattle.ir_ast.specs.declared.fault.KernelFault.{KernelFault}
 use Rattle.ir_ast.specs.declared.fault.KernelReason.{KernelReason}
-use Rattle.ir_type.specs.Items.{Item, instr_item, IsItem, line_of, Rule, K5, K6, K7, K8, K9, K10, K11, K12, K13, K14, K15, number_of, Fails, IsFree, IsFirst}
+use Rattle.ir_type.specs.Items.{Item, line_of, Rule, K5, K6, K7, K8, K9, K10, K11, K12, K13, K14, K15, number_of, Fails, IsFree, IsFirst}
 use Rattle.ir_check.specs.Least.{reason_of, number, Faults, IsUpTo, IsLeast, Either, AllFaults, is_up_to, least_of}
-use Rattle.ir_type.specs.Shape.{IsLined}
 
 -- ---- one fault
 
@@ -73,14 +72,6 @@ record Says (b : Bool) (l n k o : ℕ) : Type 0 where
 
 says : (l n k o : ℕ) → Says (nat_lt l k || ((l == k) && nat_le n o)) l n k o
 says l n k o = record { holds = grind arith; fails = grind arith }
-
--- a fault that was seen alone
-pub least_one : (P : Faults) (f : KernelFault) → P f.line f.reason → ((l : ℕ) (r : KernelReason) → P l r → (l ≡ f.line) × (r ≡ f.reason)) → IsLeast P (Some f)
-least_one P f p only = (
-  p,
-  λ l r q. let same = only l r q in
-      subst (λ k. IsUpTo f.line (number f.reason) k (number r)) (sym same.0) (subst (λ s. IsUpTo f.line (number f.reason) f.line (number s)) (sym same.1) (up_to_itself f.line (number f.reason))),
-)
 
 -- the least of two walks
 pub least_joins : (P Q : Faults) (a b : Option KernelFault) → IsLeast P a → IsLeast Q b → IsLeast (Either P Q) (least_of a b)
@@ -154,10 +145,3 @@ module _ (Falls : Item → Rule → Type 0) (m : ModuleView) where
       behind l r other =
           subst (λ n. IsUpTo f.line n l (number_of r)) (ap number is ∙ numbered rule)
           (subst (λ n. IsUpTo f.line (number f.reason) l n) (numbered r) (least l (reason_of r) (r, refl, other)))
-
--- ---- what need not be tried
-
--- an instruction of a function whose blocks have a cycle falls under nothing that comes before the fault of its function
-pub behind_its_function : (m : ModuleView) → IsLined m → (f : FunctionView) (b : BlockView) (before : List InstrView) (i : InstrView) → IsItem m (instr_item f b before i) → (n k : ℕ)
-    → IsUpTo f.line n i.line k
-behind_its_function m lined f b before i is n k = inl (lined f b before i is)

@@ -1,7 +1,7 @@
 -- The check of one function, and of all functions by their places.
-use Rattle.std.proofs.Common.{◌≡◌, ◌⊎◌, inl, inr, ℕ, ◌+◌, ◌<◌, ◌≤◌, Bool, true, false, ◌&&◌, Option, Some, None, List, [], ◌∷◌, ◌++◌, length, map, refl, sym, ◌∙◌, ap, subst, arith}
+use Rattle.std.proofs.Common.{◌≡◌, ◌⊎◌, inl, inr, ℕ, ◌+◌, ◌<◌, ◌≤◌, Bool, true, false, ◌&&◌, Option, Some, None, List, [], ◌∷◌, ◌++◌, length, refl, sym, ◌∙◌, ap, subst, arith}
 use Rattle.std.specs.Prelude.{◌↔◌, IsTrue, MatchBool, slice_get, slice_index_or, bytes_eq, flat_map, option_to_list}
-use Rattle.std.specs.List.{All, Contains, IsDistinct}
+use Rattle.std.specs.List.{All, IsDistinct}
 use Rattle.std.proofs.lemmas.Bool.{false≢true, cases_lt}
 use Rattle.std.proofs.lemmas.List.{append-nil, get_or_append_left}
 use Rattle.std.proofs.Math.Seq.{get_or-append_seam}
@@ -15,15 +15,15 @@ use Rattle.hk_flow.specs.Onward as flow
 use Rattle.hk_flow.specs.Onward.{AreClear}
 use Rattle.hk_flow.specs.Sums.{told}
 use Rattle.ir_type.specs.Items.{IsFunction}
-use Rattle.ir_type.specs.Shape.{keeps_notes, sets_its_own, IsShapedBody, IsShaped, IsLined}
-use Rattle.ir_type.proofs.Places.{get_below, some_same}
+use Rattle.ir_type.specs.Shape.{keeps_notes, sets_its_own, IsShapedBody, IsShaped}
+use Rattle.ir_type.proofs.Places.{some_same}
 use Rattle.ir_typing.specs.Registers.{blocks_of}
 use Rattle.ir_check.specs.Paths.{FallsK10}
 use Rattle.ir_check.specs.Graphs.{named_blocks, block_graph, LeadsBack, HasNoOrder, IsOnward, SaysCalls, SaysLength}
 use Rattle.ir_check.specs.Rules.{GlobalFalls}
 use Rattle.ir_check.specs.Least.{Faults, IsLeast, Either, least_of}
 use Rattle.ir_check.specs.ItemFaults.{ItemFaults, AreCalls}
-use Rattle.ir_check.specs.Parts.{AmongFirst, AmongAll, OfPlace, HeadFaults, BodyFaults, FunctionFaultsAt, GlobalFaultsAt, AreNotedIn, AreNoted}
+use Rattle.ir_check.specs.Parts.{AmongFirst, AmongAll, HeadFaults, BodyFaults, FunctionFaultsAt, GlobalFaultsAt, AreNotedIn, AreNoted}
 use Rattle.ir_check.specs.Checked.{IsForward, OrdersFirst}
 use Rattle.ir_check.proofs.BlockOrders.{onward_forward, onward_falls, no_order_falls}
 use Rattle.ir_check.proofs.OrderFacts.{looping, onward}

@@ -1,5 +1,5 @@
 -- The least rule of an instruction: the rule of arms is the last.
-use Rattle.std.proofs.Common.{◌≡◌, ◌⊎◌, inl, inr, ℕ, ◌≤◌, Bool, true, false, Option, Some, None, List, [], ◌∷◌, map, refl, sym, ◌∙◌, ap, subst, arith}
+use Rattle.std.proofs.Common.{◌≡◌, ◌⊎◌, inl, inr, ℕ, Bool, true, false, Option, Some, None, List, [], ◌∷◌, map, refl, sym, ◌∙◌, ap, subst, arith}
 use Rattle.std.specs.Prelude.{MatchBool, bytes_eq, slice_get, Contains}
 use Rattle.std.specs.List.{IsDistinct}
 use Rattle.std.proofs.lemmas.Bool.{cases_Bool}
@@ -8,7 +8,7 @@ use Rattle.ir_ast.specs.Table.{names_of, place_of}
 use Rattle.ir_ast.specs.ProgramView.{view_arms}
 use Rattle.ir_ast.specs.declared.operand.Operand.{Operand}
 use Rattle.ir_ast.specs.declared.fault.KernelReason.{KernelReason}
-use Rattle.ir_ast.specs.Program.{Act, phi, InstrView, BlockView, FunctionView, ModuleView}
+use Rattle.ir_ast.specs.Program.{phi, InstrView, BlockView, FunctionView, ModuleView}
 use Rattle.ir_type.specs.Items.{Rule, K8, K15, number_of}
 use Rattle.ir_type.specs.Whole.{Types}
 use Rattle.ir_typing.specs.Known.{is_known}
@@ -30,9 +30,6 @@ whole_least Falls plain found none least arms = by found arms
     by : (o : Option KernelReason) → IsArmsReason (Falls K15) o → IsLeastReason Falls o
     by None h = λ q p. h (subst Falls (only q p) p)
     by (Some s) (is, falls) = (K15, is, falls, λ q p. let same = ap number_of (only q p) in omega arith)
-
-pub plain_least : (Falls : Rule → Type 0) (plain : Option KernelReason) (s : KernelReason) → plain ≡ Some s → IsLeastPlain Falls plain → IsLeastReason Falls (Some s)
-plain_least Falls plain s some least = subst (IsLeastPlain Falls) some least
 
 -- where no other rule is met, the names are known
 pub plain_known : (m : ModuleView) (f : FunctionView) (b : BlockView) (before : List InstrView) (i : InstrView) (plain : Option KernelReason) → plain ≡ None → IsLeastPlain (InstrFalls m f b before i) plain

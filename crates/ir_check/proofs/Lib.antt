@@ -1,5 +1,4 @@
 pub mod Lengths
-pub mod Missing
 pub mod FirstFault
 pub mod NamedGraph
 pub mod EdgeLaws

@@ -1,27 +1,23 @@
 -- The least fault of a walk over parts, and of all items.
-use Rattle.std.proofs.Common.{◌≡◌, ◌⊎◌, inl, inr, ℕ, zero, suc, ◌+◌, ◌<◌, ◌≤◌, Option, Some, None, List, [], ◌∷◌, ◌++◌, length, map, take, refl, sym, ◌∙◌, ap, subst, arith}
+use Rattle.std.proofs.Common.{◌≡◌, ◌⊎◌, inl, inr, ℕ, zero, suc, ◌+◌, ◌<◌, ◌≤◌, Option, Some, None, List, [], ◌∷◌, ◌++◌, length, take, refl, sym, ◌∙◌, ap, subst, arith}
 use Rattle.std.specs.Prelude.{slice_get, Contains, flat_map, option_to_list}
 use Rattle.std.proofs.lemmas.List.{append-nil}
 use Rattle.std.proofs.lemmas.Bool.{cases_lt}
-use Rattle.ir_ast.specs.Program.{InstrView, BlockView, FunctionView, GlobalView, ModuleView}
+use Rattle.ir_ast.specs.Program.{InstrView, BlockView, FunctionView, ModuleView}
 use Rattle.ir_ast.specs.declared.fault.KernelFault.{KernelFault}
 use Rattle.ir_ast.specs.declared.fault.KernelReason.{KernelReason}
-use Rattle.ir_type.specs.Items.{Item, layout_item, type_item, global_item, range_item, function_item, instr_item, IsItem, IsFunction, line_of, Rule, K10, K15, number_of, Fails}
+use Rattle.ir_type.specs.Items.{layout_item, type_item, global_item, range_item, function_item, instr_item, IsItem, IsFunction, K10}
 use Rattle.ir_type.specs.Shape.{IsLined}
 use Rattle.ir_type.proofs.Places.{get_below, some_same}
 use Rattle.ir_typing.specs.Registers.{blocks_of}
 use Rattle.ir_check.specs.Paths.{FallsK10}
-use Rattle.ir_check.specs.Rules.{FallsByCheck, GlobalFalls, FunctionFalls, InstrFalls}
+use Rattle.ir_check.specs.Rules.{FallsByCheck, InstrFalls}
 use Rattle.ir_check.specs.Least.{reason_of, number, Faults, IsUpTo, IsLeast, Either, AllFaults, least_of}
-use Rattle.ir_check.specs.ItemFaults.{ItemFaults}
-use Rattle.ir_check.specs.Parts.{AmongFirst, AmongAll, OfPlace, InstrFaultsAt, BlockFaultsAt, HeadFaults, BodyFaults, FunctionFaultsAt, GlobalFaultsAt, PartFaults}
-use Rattle.ir_check.proofs.FirstFault.{least_joins, least_same, least_covers, up_to_both}
+use Rattle.ir_check.specs.Parts.{AmongFirst, AmongAll, OfPlace, HeadFaults, BodyFaults, PartFaults}
+use Rattle.ir_check.proofs.FirstFault.{least_joins, least_same, least_covers}
 use Rattle.ir_check.proofs.SiteLaws.{get_at, contains_at}
 
 -- ---- several parts
-
-pub least_of_none : (P : ℕ → Faults) → IsLeast (AmongFirst P 0) None
-least_of_none P l r (k, below, p) = absurd (omega arith)
 
 pub least_more : (P : ℕ → Faults) (n : ℕ) (a b : Option KernelFault) → IsLeast (AmongFirst P n) a → IsLeast (P n) b → IsLeast (AmongFirst P (n + 1)) (least_of a b)
 least_more P n a b first next = least_same (Either (AmongFirst P n) (P n)) (AmongFirst P (n + 1)) (least_of a b) (least_joins (AmongFirst P n) (P n) a b first next) to from

@@ -1,5 +1,5 @@
 -- Lists of the code element by element, as a walk over them sees them.
-use Rattle.std.proofs.Common.{◌≡◌, ℕ, ◌+◌, ◌<◌, ◌≤◌, Bool, Option, Some, option_map, List, length, map, take, refl, sym, ◌∙◌, ap, subst, arith}
+use Rattle.std.proofs.Common.{◌≡◌, ℕ, ◌+◌, ◌<◌, ◌≤◌, Bool, Some, option_map, List, length, map, take, sym, ◌∙◌, ap, subst}
 use Rattle.std.specs.Prelude.{◌&&◌, slice_get, slice_index_or}
 use Rattle.std.specs.List.{All, Contains, list_all}
 use Rattle.std.proofs.lemmas.List.{take_all}

@@ -1,5 +1,5 @@
 -- When a module is refused, and which functions are found.
-use Rattle.std.specs.Prelude.{◌≡◌, ℕ, Option, Some, None, Result, Ok, Err, is_some, option_and_then, if◌then◌else◌, List}
+use Rattle.std.specs.Prelude.{◌≡◌, ℕ, Option, None, Result, Ok, Err, is_some, option_and_then, if◌then◌else◌, List}
 use Rattle.ir_ast.specs.Program.{FunctionView, ModuleView}
 use Rattle.ir_ast.specs.Table.{place_of}
 use Rattle.ir_ast.specs.declared.fault.KernelFault.{KernelFault}

@@ -1,5 +1,5 @@
 -- What a checked module carries for the layers above: facts of its functions, in the forms that runs and walks use.
-use Rattle.std.specs.Prelude.{◌≡◌, ◌≢◌, ℕ, ◌<◌, ◌≤◌, Option, Some, None, unwrap_or, List, [], ◌∷◌, ◌++◌, map, sum, length, slice_get, slice_index_or, Contains}
+use Rattle.std.specs.Prelude.{◌≡◌, ◌≢◌, ℕ, ◌<◌, ◌≤◌, Option, Some, unwrap_or, List, [], ◌∷◌, ◌++◌, map, sum, length, slice_get, slice_index_or, Contains}
 use Rattle.std.specs.List.{All, AllPairs}
 use Rattle.ir_ast.specs.Plain.{Ty, Val}
 use Rattle.ir_ast.specs.Program.{phi, InstrView, BlockView, FunctionView, ModuleView}

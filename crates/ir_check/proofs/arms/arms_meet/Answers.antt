@@ -1,4 +1,3 @@
-use Rattle.std.proofs.Common.{List}
 use Rattle.ir_ast.specs.View.{view_type}
 use Rattle.ir_ast.specs.ProgramView.{view_entries, view_type_entry}
 use Rattle.ir_check.proofs.ArmOperands.{meets_say, counts_refute}

@@ -6,7 +6,6 @@ use Rattle.ir_type.specs.Shape.{keeps_notes}
 use Rattle.ir_type.proofs.Places.{get_below}
 use Rattle.ir_typing.specs.Fits.{is_phi}
 use Rattle.ir_typing.specs.Registers.{blocks_of}
-use Rattle.ir_check.specs.ItemFaults.{on_line}
 use Rattle.ir_check.specs.Used.{function_in}
 use Rattle.ir_check.proofs.Taken.{slice_at, all_there}
 use Rattle.ir_check.proofs.BodyLaws.{instr_next, instrs_done, phis_next}

@@ -1,12 +1,10 @@
 use Rattle.std.proofs.Common.{◌≤◌, length, sym, ◌∙◌, ap, subst, arith}
-use Rattle.std.specs.Prelude.{slice_get}
 use Rattle.std.proofs.lemmas.List.{length-map}
 use Rattle.ir_ast.specs.Program.{BlockView}
 use Rattle.ir_ast.specs.ProgramView.{view_module, view_block}
-use Rattle.ir_typing.specs.Registers.{blocks_of}
 use Rattle.ir_check.specs.Used.{function_in}
 use Rattle.ir_check.specs.Parts.{AreNotedIn}
-use Rattle.ir_check.proofs.Taken.{code_at, all_here}
+use Rattle.ir_check.proofs.Taken.{all_here}
 use Rattle.ir_check.proofs.BodyLaws.{block_next, blocks_done}
 use Rattle.ir_check.proofs.body.blocks_fault.Goals as goal
 
