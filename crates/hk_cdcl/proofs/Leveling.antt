@@ -132,7 +132,7 @@ unset-before-neg vars lits m n apart le lt = false_from_ne_true (has (take m lit
     omega (arith, b, s, le))
 
 -- the first literals of a clause that the trail has, as more of them are looked at
-has-longer : (lits : List ℤ) (m n : ℕ) (x : ℤ) → m ≤ n → n ≤ length lits → has (take m lits) x ≡ true → has (take n lits) x ≡ true
+pub has-longer : (lits : List ℤ) (m n : ℕ) (x : ℤ) → m ≤ n → n ≤ length lits → has (take m lits) x ≡ true → has (take n lits) x ≡ true
 has-longer lits m n x le b h =
     let a : (k : ℕ) × (k < m) × (lit_at lits k ≡ x) = at-take lits m x (omega (arith, le, b)) (has-place (take m lits) x h) in
     let lt : a.0 < m = a.1 in

@@ -11,7 +11,10 @@ mod scan;
 mod search;
 mod solver;
 mod trail;
+mod watched;
+mod watches;
 
 pub use propagate::{FullScan, Propagate};
 pub use solver::{SolveEnd, solve};
 pub use trail::Trail;
+pub use watched::Watched;
