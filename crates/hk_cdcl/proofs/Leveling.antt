@@ -201,6 +201,29 @@ reason-grown clauses c lits target n id lt r =
           ∙ (r.unit ∙ ap OneLeft (sym (get_or-take target lits n (pos 0) lt))));
     }
 
+-- back to the end of level zero
+reason-cut : (clauses : List (List ℤ)) (lits : List ℤ) (target n id : ℕ) → n < target → IsReason clauses lits n id → IsReason clauses (take target lits) n id
+reason-cut clauses lits target n id lt r =
+    record {
+      named = r.named;
+      inside = r.inside;
+      unit = ap (λ ls. hint_of (has ls) (clause_at clauses id)) (take-take n target lits (omega (arith, lt))) ∙ (r.unit ∙ ap OneLeft (sym (get_or-take target lits n (pos 0) lt)));
+    }
+
+pub leveled-zero : (clauses : Clauses) (p : Path) (levels : List ℕ) (first : ℕ) → IsLeveled clauses p levels → 0 < length levels → first ≡ get_or levels 0 0 → IsLeveled clauses (cut_at p first) []
+leveled-zero clauses p levels first h some e =
+    record {
+      vars = h.vars;
+      reasons = λ n lt all. let b : n < first = omega (arith, lt, short) in
+          subst (IsReason clauses.clauses (take first p.lits) n) (sym (get_or-take first p.reasons n 0 b)) (reason-cut clauses.clauses p.lits first n (get_or p.reasons n 0) b ((level-first clauses p levels first h some e).each n (omega arith) b));
+      quiet = All-nil (λ level. AreQuiet (has (take level (take first p.lits))) clauses.clauses);
+      rising = λ i j d lt b. absurd (omega (arith, b));
+      inside = All-nil (λ level. level < length (take first p.lits));
+    }
+  where
+    short : length (take first p.lits) ≡ first
+    short = length-take-le first p.lits (let b : get_or levels 0 0 < length p.lits = h.inside 0 0 some in omega (arith, b, e))
+
 -- back to the end of an earlier level, with the learned clause
 pub leveled-jump : (clauses : Clauses) (p : Path) (levels kept : List ℕ) (n below rest target : ℕ) (c : List ℤ) → IsPath p → IsLeveled clauses p levels → n + 1 ≡ length levels → below ≡ get_or levels n 0 → IsAsserting p.lits below rest c → IsJump levels kept rest target → IsLeveled (record clauses { clauses = clauses.clauses ++ c ∷ [] }) (cut_at p target) kept
 leveled-jump clauses p levels kept n below rest target c path h last e a j =

@@ -19,3 +19,5 @@ pub mod Resting
 pub mod Relisting
 pub mod Moving
 pub mod Attaching
+pub mod Stamping
+pub mod Tracking

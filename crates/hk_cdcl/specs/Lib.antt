@@ -10,3 +10,4 @@ pub mod States
 pub mod Ends
 pub mod Watches
 pub mod Watching
+pub mod Order

@@ -4,11 +4,14 @@
 //! list, or a log that spent its budget on clauses which unit propagation did not give, goes out.
 #![tactic(auto)]
 
-mod analyse;
+mod analyze;
 mod learn;
+mod order;
 mod propagate;
+mod restarts;
 mod scan;
 mod search;
+mod seen;
 mod solver;
 mod trail;
 mod watched;
