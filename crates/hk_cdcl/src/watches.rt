@@ -199,10 +199,13 @@ impl Watches {
         Ok(())
     }
 
-    /// Counts a clause more for each of its literals.
+    /// Counts a clause more for each of its literals. A literal alone is watched twice.
     fn count_all(&mut self, clause: &[Lit])
         ensures { self.new ≡ self.old }
     {
+        if let [alone] = clause {
+            self.count_one(*alone);
+        }
         for lit in clause {
             self.count_one(*lit);
         }
