@@ -8,7 +8,7 @@ use Rattle.std.proofs.lemmas.List.Quantifiers.{all_pairs_push}
 use Rattle.std.specs.List.{All, AllPairs}
 use Rattle.std.specs.Ordering.{int_eq}
 use Rattle.hk_cnf.specs.Literal.{IsWithin, place_of, code_of, has}
-use Rattle.hk_cnf.proofs.Members.{int_eq-is, int_eq-not, all-has, has-left}
+use Rattle.hk_cnf.proofs.Members.{int_eq-is, int_eq-not, all-has}
 use Rattle.hk_cnf.specs.Clauses.{AreWithin}
 use Rattle.hk_cnf.proofs.Tells.{hint-false}
 use Rattle.hk_cdcl.specs.declared.watches.Watch.{Watch}
@@ -415,13 +415,6 @@ propagating-extends clauses w p q head h e =
       watching = subst (AreWatched clauses w.watches w.pairs.items w.ends.items) (sym e.lits) (watched-append clauses w.watches w.pairs.items w.ends.items p.lits e.more h.watching);
       resting = subst (λ ls. AreResting clauses w.pairs.items ls head) (sym e.lits) (resting-append clauses w.pairs.items p.lits e.more head h.inside h.resting);
     }
-
-pub others-append : (lits more c : List ℤ) (l : ℤ) → All (λ x. (l ≡ x) ⊎ (has lits (neg_ℤ x) ≡ true)) c → All (λ x. (l ≡ x) ⊎ (has (lits ++ more) (neg_ℤ x) ≡ true)) c
-others-append lits more c l h = All-weaker (λ x. (l ≡ x) ⊎ (has lits (neg_ℤ x) ≡ true)) (λ x. (l ≡ x) ⊎ (has (lits ++ more) (neg_ℤ x) ≡ true)) (λ x k. pick x k) c h
-  where
-    pick : (x : ℤ) → (l ≡ x) ⊎ (has lits (neg_ℤ x) ≡ true) → (l ≡ x) ⊎ (has (lits ++ more) (neg_ℤ x) ≡ true)
-    pick x (inl e) = inl e
-    pick x (inr e) = inr (has-left lits more (neg_ℤ x) e)
 
 -- a clause of which one literal alone was left
 pub propagating-lone : (clauses : List (List ℤ)) (vars : ℕ) (w v u : Watched) (p q : Path) (head k : ℕ) (first second : ℤ) (binary : Bool) → k ≡ length w.pairs.items → AreWithin vars clauses → p.vars ≡ vars → Propagating clauses w p head → k < length clauses → Extends clauses p q → has q.lits first ≡ true → has (clause_no clauses k) first ≡ true → has (clause_no clauses k) second ≡ true → (binary ≡ true → All (λ x. (second ≡ x) ⊎ (first ≡ x)) (clause_no clauses k)) → v.pairs ≡ w.pairs → v.watches ≡ w.watches → IsFront w.ends.items v.ends.items → (AllPairs (λ d e. d < e) w.ends.items → All (λ e. e ≤ length q.lits) w.ends.items → IsEnded v.ends.items q.lits (clause_no clauses k) (record { first = first; second = second })) → u.watches ≡ with_both v.watches first second k binary → u.pairs.items ≡ v.pairs.items ++ (record { first = first; second = second }) ∷ [] → u.ends ≡ v.ends → Propagating clauses u q head

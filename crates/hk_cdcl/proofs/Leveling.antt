@@ -112,10 +112,6 @@ level-last clauses p levels n below h last e =
 pub level-none : (clauses : Clauses) (p : Path) → IsLeveled clauses p [] → AreReasons clauses.clauses p 0 (length p.lits)
 level-none clauses p h = record { each = λ n a lt. h.reasons n lt (All-nil (λ level. level ≢ n)) }
 
-pub level-ordered : (clauses : Clauses) (p : Path) (levels : List ℕ) (n first below : ℕ) → IsLeveled clauses p levels → n + 1 ≡ length levels → first ≡ get_or levels 0 0 → below ≡ get_or levels n 0 → first ≤ below
-level-ordered clauses p levels zero first below h last e f = omega (arith, e, f)
-level-ordered clauses p levels (suc n) first below h last e f = let r : get_or levels 0 0 < get_or levels (suc n) 0 = h.rising 0 (suc n) 0 (omega arith) (omega (arith, last)) in omega (arith, r, e, f)
-
 -- a literal from a place on is unset before it, and so is its negation
 unset-before : (vars : ℕ) (lits : List ℤ) (m n : ℕ) → AreApart lits → m ≤ n → n < length lits → has (take m lits) (lit_at lits n) ≡ false
 unset-before vars lits m n apart le lt = false_from_ne_true (has (take m lits) (lit_at lits n)) (λ h.

@@ -13,9 +13,6 @@ use Rattle.hk_cdcl.specs.Watches.{watches_of, watch_at}
 use Rattle.hk_cdcl.specs.Watching.{Lists, IsWatch, IsMoved}
 use Rattle.hk_cdcl.proofs.Places.{code_of-same}
 
-none : Watch
-none = record { clause = 0; blocker = pos 0; binary = false }
-
 -- one literal's list is written
 pub lists-same : (lists : List (List Watch)) (l : ℤ) (ws : List Watch) → code_of l < length lists → watches_of (set lists (code_of l) ws) l ≡ ws
 lists-same lists l ws lt = get_or-set_same lists (code_of l) ws [] lt
