@@ -89,7 +89,7 @@ leads-same live c seen lits n hints lt why h =
 
 -- a literal that is resolved: its reason is unit, and makes it true
 pub leads-resolved : (clauses : List (List ℤ)) (c : List ℤ) (seen : List Bool) (lits : List ℤ) (n id : ℕ) (hints : List ℕ) → n < length lits → IsReason clauses lits n id → AreSeen seen (clause_at clauses id) → seen_at seen (lit_at lits n) ≡ true → denied c (lit_at lits n) ≡ false → denied c (neg_ℤ (lit_at lits n)) ≡ false → LeadsTo (numbered 1 clauses) c seen lits n hints → LeadsTo (numbered 1 clauses) c seen lits (n + 1) (hints ++ id ∷ [])
-leads-resolved clauses c seen lits n id hints lt r marked mark d1 d2 h =
+leads-resolved clauses c seen lits n id hints lt r marked mark away neg_away h =
     record {
       each = λ rest.
           ap (follow (numbered 1 clauses) (denied c)) (append_assoc hints (id ∷ []) rest) ∙ (h.each (id ∷ rest)
@@ -108,8 +108,8 @@ leads-resolved clauses c seen lits n id hints lt r marked mark d1 d2 h =
     unit = hint-single (upto c seen lits n) (lit_at lits n) (clause_at clauses id) (record {
       member = single.member;
       others = λ k d b. lifted (get_or (clause_at clauses id) k d) (marked k d b) (single.others k d b);
-      not_true = or_from (denied c (lit_at lits n)) (has (take n lits) (lit_at lits n) && seen_at seen (lit_at lits n)) d1 (and_left (has (take n lits) (lit_at lits n)) (seen_at seen (lit_at lits n)) single.not_true);
-      not_false = or_from (denied c (neg_ℤ (lit_at lits n))) (has (take n lits) (neg_ℤ (lit_at lits n)) && seen_at seen (neg_ℤ (lit_at lits n))) d2 (and_left (has (take n lits) (neg_ℤ (lit_at lits n))) (seen_at seen (neg_ℤ (lit_at lits n))) single.not_false);
+      not_true = or_from (denied c (lit_at lits n)) (has (take n lits) (lit_at lits n) && seen_at seen (lit_at lits n)) away (and_left (has (take n lits) (lit_at lits n)) (seen_at seen (lit_at lits n)) single.not_true);
+      not_false = or_from (denied c (neg_ℤ (lit_at lits n))) (has (take n lits) (neg_ℤ (lit_at lits n)) && seen_at seen (neg_ℤ (lit_at lits n))) neg_away (and_left (has (take n lits) (neg_ℤ (lit_at lits n))) (seen_at seen (neg_ℤ (lit_at lits n))) single.not_false);
     })
 
     set-here : (d k : Bool) → true ≡ (d || ((k || (true || false)) && true))

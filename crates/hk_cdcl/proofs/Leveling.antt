@@ -112,10 +112,6 @@ level-last clauses p levels n below h last e =
 pub level-none : (clauses : Clauses) (p : Path) → IsLeveled clauses p [] → AreReasons clauses.clauses p 0 (length p.lits)
 level-none clauses p h = record { each = λ n a lt. h.reasons n lt (All-nil (λ level. level ≢ n)) }
 
-pub level-ordered : (clauses : Clauses) (p : Path) (levels : List ℕ) (n first below : ℕ) → IsLeveled clauses p levels → n + 1 ≡ length levels → first ≡ get_or levels 0 0 → below ≡ get_or levels n 0 → first ≤ below
-level-ordered clauses p levels zero first below h last e f = omega (arith, e, f)
-level-ordered clauses p levels (suc n) first below h last e f = let r : get_or levels 0 0 < get_or levels (suc n) 0 = h.rising 0 (suc n) 0 (omega arith) (omega (arith, last)) in omega (arith, r, e, f)
-
 -- a literal from a place on is unset before it, and so is its negation
 unset-before : (vars : ℕ) (lits : List ℤ) (m n : ℕ) → AreApart lits → m ≤ n → n < length lits → has (take m lits) (lit_at lits n) ≡ false
 unset-before vars lits m n apart le lt = false_from_ne_true (has (take m lits) (lit_at lits n)) (λ h.
@@ -132,7 +128,7 @@ unset-before-neg vars lits m n apart le lt = false_from_ne_true (has (take m lit
     omega (arith, b, s, le))
 
 -- the first literals of a clause that the trail has, as more of them are looked at
-has-longer : (lits : List ℤ) (m n : ℕ) (x : ℤ) → m ≤ n → n ≤ length lits → has (take m lits) x ≡ true → has (take n lits) x ≡ true
+pub has-longer : (lits : List ℤ) (m n : ℕ) (x : ℤ) → m ≤ n → n ≤ length lits → has (take m lits) x ≡ true → has (take n lits) x ≡ true
 has-longer lits m n x le b h =
     let a : (k : ℕ) × (k < m) × (lit_at lits k ≡ x) = at-take lits m x (omega (arith, le, b)) (has-place (take m lits) x h) in
     let lt : a.0 < m = a.1 in
@@ -200,6 +196,29 @@ reason-grown clauses c lits target n id lt r =
           ∙ (ap (hint_of (has (take n lits))) (get_or_append_left clauses (c ∷ []) [] (id - 1) (let a : 1 ≤ id = r.named in let b : id ≤ length clauses = r.inside in omega (arith, a, b)))
           ∙ (r.unit ∙ ap OneLeft (sym (get_or-take target lits n (pos 0) lt))));
     }
+
+-- back to the end of level zero
+reason-cut : (clauses : List (List ℤ)) (lits : List ℤ) (target n id : ℕ) → n < target → IsReason clauses lits n id → IsReason clauses (take target lits) n id
+reason-cut clauses lits target n id lt r =
+    record {
+      named = r.named;
+      inside = r.inside;
+      unit = ap (λ ls. hint_of (has ls) (clause_at clauses id)) (take-take n target lits (omega (arith, lt))) ∙ (r.unit ∙ ap OneLeft (sym (get_or-take target lits n (pos 0) lt)));
+    }
+
+pub leveled-zero : (clauses : Clauses) (p : Path) (levels : List ℕ) (first : ℕ) → IsLeveled clauses p levels → 0 < length levels → first ≡ get_or levels 0 0 → IsLeveled clauses (cut_at p first) []
+leveled-zero clauses p levels first h some e =
+    record {
+      vars = h.vars;
+      reasons = λ n lt all. let b : n < first = omega (arith, lt, short) in
+          subst (IsReason clauses.clauses (take first p.lits) n) (sym (get_or-take first p.reasons n 0 b)) (reason-cut clauses.clauses p.lits first n (get_or p.reasons n 0) b ((level-first clauses p levels first h some e).each n (omega arith) b));
+      quiet = All-nil (λ level. AreQuiet (has (take level (take first p.lits))) clauses.clauses);
+      rising = λ i j d lt b. absurd (omega (arith, b));
+      inside = All-nil (λ level. level < length (take first p.lits));
+    }
+  where
+    short : length (take first p.lits) ≡ first
+    short = length-take-le first p.lits (let b : get_or levels 0 0 < length p.lits = h.inside 0 0 some in omega (arith, b, e))
 
 -- back to the end of an earlier level, with the learned clause
 pub leveled-jump : (clauses : Clauses) (p : Path) (levels kept : List ℕ) (n below rest target : ℕ) (c : List ℤ) → IsPath p → IsLeveled clauses p levels → n + 1 ≡ length levels → below ≡ get_or levels n 0 → IsAsserting p.lits below rest c → IsJump levels kept rest target → IsLeveled (record clauses { clauses = clauses.clauses ++ c ∷ [] }) (cut_at p target) kept

@@ -15,3 +15,9 @@ pub mod Going
 pub mod Running
 pub mod Ternary
 pub mod Ending
+pub mod Resting
+pub mod Relisting
+pub mod Moving
+pub mod Attaching
+pub mod Stamping
+pub mod Tracking

@@ -54,7 +54,7 @@ set-kept seen p v lt e = pick (cases_eq v p)
     pick (inl s) = ap (λ i. get_or (set seen p true) i false) s ∙ get_or-set_same seen p true false lt
     pick (inr s) = get_or-set_other seen p v true false s ∙ e
 
-set-only : (seen : List Bool) (p v : ℕ) → get_or (set seen p true) v false ≡ true → (get_or seen v false ≡ true) ⊎ (p ≡ v)
+pub set-only : (seen : List Bool) (p v : ℕ) → get_or (set seen p true) v false ≡ true → (get_or seen v false ≡ true) ⊎ (p ≡ v)
 set-only seen p v e = pick (cases_eq v p)
   where
     pick : (v ≡ p) ⊎ (v ≢ p) → (get_or seen v false ≡ true) ⊎ (p ≡ v)

@@ -25,8 +25,8 @@ pub grown-all : (cs : List (List ℤ)) → Grown [] cs
 grown-all cs = record { more = cs; is = refl }
 
 -- after unit propagation
-pub running-propagated : (list : Clauses) (fits : List (List ℤ) → List ℤ → Type 0) (s : Search) (q : Path) → IsPath s.trail → Running list fits s → Extends s.clauses.clauses s.trail q → IsLeveled s.clauses q s.levels.items
-running-propagated list fits s q path r e = leveled-extends s.clauses s.trail q s.levels.items path r.leveled e
+pub running-propagated : (list : Clauses) (fits : List (List ℤ) → List ℤ → Type 0) (s : Search) (q : Path) → IsPath s.trail → Running list fits s → Extends s.clauses.clauses s.trail q → IsLeveled s.clauses q s.levels.items × (length s.seen ≡ q.vars)
+running-propagated list fits s q path r e = (leveled-extends s.clauses s.trail q s.levels.items path r.leveled.0 e, r.leveled.1 ∙ sym e.vars)
 
 pub running-decided : (list : Clauses) (fits : List (List ℤ) → List ℤ → Type 0) (s t : Search) → IsLogged list s.clauses s.log → fits s.clauses.clauses s.trail.lits → IsDecided s t → Running list fits t
 running-decided list fits s t g f d =

@@ -75,16 +75,6 @@ lowest-conflict clauses lits below old new n lowest h quiet le none m l = pick l
     pick (inl e) = absurd (omega (arith, e, inside))
     pick (inr k) = record { least = least; after = k.0; inside = k.1; marked = marked-variable new (get_or clauses n []) (place_of (lit_at lits lowest)) m.marked k.2 }
 
--- the lowest marked place of the level stays so while literals of level zero are resolved
-pub lowest-first : (clauses : List (List ℤ)) (p : Path) (mid new : List Bool) (floor below uip : ℕ) → floor ≤ below → IsLowest p.lits below mid uip → Closed clauses p mid new 0 floor → IsLowest p.lits below new uip
-lowest-first clauses p mid new floor below uip le h c =
-    record {
-      least = λ n a b s. h.least n a b (c.earlier n (omega (arith, a, le)) b s);
-      after = h.after;
-      inside = h.inside;
-      marked = c.kept (place_of (lit_at p.lits uip)) h.marked;
-    }
-
 pub traced : (clauses : List (List ℤ)) (p : Path) (first mid new : List Bool) (floor below uip conflict : ℕ) → floor ≤ below → below ≤ length p.lits → AreSeen first (get_or clauses conflict []) → IsLowest p.lits below mid uip → Closed clauses p first mid (uip + 1) (length p.lits) → Closed clauses p mid new 0 floor → AreReasons clauses p 0 floor → AreReasons clauses p (below + 1) (length p.lits) → IsTraced clauses p new floor below uip conflict
 traced clauses p first mid new floor below uip conflict le ge s h a b f l =
     record {

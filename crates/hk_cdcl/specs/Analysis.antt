@@ -1,6 +1,6 @@
 -- Which literals a conflict rests on, and the clause that is learned from it.
 use Rattle.std.specs.Prelude.{◌≡◌, ◌⊎◌, ℕ, ◌-◌, ◌<◌, ◌≤◌, ◌≢◌, Bool, true, false, List, [], length, take, ℤ, neg_ℤ, slice_index, slice_index_or, None}
-use Rattle.std.specs.List.{All}
+use Rattle.std.specs.List.{All, Contains}
 use Rattle.hk_cnf.specs.Literal.{IsWithin, place_of, has, denied}
 use Rattle.hk_lrat.specs.Log.{numbered, has_both, follow}
 use Rattle.hk_cdcl.specs.Path.{Path, IsReason, lit_at, clause_at}
@@ -101,3 +101,8 @@ pub record IsLearned (clauses : List (List ℤ)) (p : Path) (below : ℕ) (claus
   pub not_both : has_both clause ≡ false
   pub derived : Derives clauses clause hints
   pub asserting : IsAsserting p.lits below rest clause
+
+-- each marked place before `below` is kept
+pub record IsTracked (lits : List ℤ) (below : ℕ) (seen : List Bool) (lower : List ℕ) : Type 0 where
+  pub complete : (n : ℕ) → n < below → n < length lits → seen_at seen (lit_at lits n) ≡ true → Contains lower n
+  pub sound : All (λ n. n < below) lower

@@ -8,3 +8,6 @@ pub mod Searching
 pub mod Solved
 pub mod States
 pub mod Ends
+pub mod Watches
+pub mod Watching
+pub mod Order

@@ -67,11 +67,10 @@ is_set lits n = has lits (pos (suc n)) || has lits (negsuc n)
 abbrev pub AreSet : List ℤ → ℕ → Type 0
 AreSet lits vars = (n : ℕ) → n < vars → is_set lits n ≡ true
 
--- the variable at this place is not set, and each before it is
-pub record IsFirstUnset (lits : List ℤ) (vars n : ℕ) : Type 0 where
+-- the variable at this place is not set
+pub record IsUnset (lits : List ℤ) (vars n : ℕ) : Type 0 where
   pub inside : n < vars
   pub unset : is_set lits n ≡ false
-  pub before : AreSet lits n
 
 -- a truth value for each variable, in their order
 pub record AreTruths (lits : List ℤ) (vars : ℕ) (values : List Bool) : Type 0 where

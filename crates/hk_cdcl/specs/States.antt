@@ -9,8 +9,9 @@ use Rattle.hk_cdcl.specs.Solved.{Satisfies}
 use Rattle.hk_cdcl.specs.Propagation.{Grown}
 use Rattle.hk_cdcl.specs.Searching.{IsLogged, IsLeveled}
 
+-- the trail and its levels, and a mark for each variable
 abbrev pub Leveled : Search → Type 0
-Leveled s = IsLeveled s.clauses s.trail s.levels.items
+Leveled s = IsLeveled s.clauses s.trail s.levels.items × (length s.seen ≡ s.trail.vars)
 
 -- a literal more was made true as a decision
 pub record IsDecided (old new : Search) : Type 0 where
@@ -28,6 +29,14 @@ pub record IsBack (old new : Search) (n : ℕ) : Type 0 where
   pub clauses : Grown old.clauses.clauses new.clauses.clauses
   pub log : length new.log ≡ length old.log + 1
   pub lits : new.trail.lits ≡ take n old.trail.lits
+
+-- the trail was cut to this length, or is as before
+pub record IsRestarted (old new : Search) (n : ℕ) : Type 0 where
+  pub leveled : Leveled new
+  pub clauses : new.clauses ≡ old.clauses
+  pub log : new.log ≡ old.log
+  pub lits : new.trail.lits ≡ take n old.trail.lits
+  pub inside : n ≤ length old.trail.lits
 
 -- the empty clause was added
 pub record IsClosed (old new : Search) : Type 0 where

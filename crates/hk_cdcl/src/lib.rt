@@ -4,14 +4,20 @@
 //! list, or a log that spent its budget on clauses which unit propagation did not give, goes out.
 #![tactic(auto)]
 
-mod analyse;
+mod analyze;
 mod learn;
+mod order;
 mod propagate;
+mod restarts;
 mod scan;
 mod search;
+mod seen;
 mod solver;
 mod trail;
+mod watched;
+mod watches;
 
 pub use propagate::{FullScan, Propagate};
 pub use solver::{SolveEnd, solve};
 pub use trail::Trail;
+pub use watched::Watched;

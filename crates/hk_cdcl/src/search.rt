@@ -1,16 +1,19 @@
 //! The search: what it keeps between two conflicts, and how it decides, learns and goes back.
 
-ghost use Rattle.std.specs.Prelude.{◌≡◌, ◌-◌, ◌<◌, ◌≤◌, [], false, length, take, slice_index, IfOk, OnOk, IfSome, IfNone, MatchOption};
+ghost use Rattle.std.specs.Prelude.{◌≡◌, ◌⊎◌, ◌+◌, ◌^◌, pos, negsuc, ◌-◌, ◌<◌, ◌≤◌, [], false, length, take, slice_index, IfOk, OnOk, IfSome, IfNone, MatchOption};
 ghost use Rattle.std.specs.List.{All, AllPairs};
 ghost use Rattle.hk_cnf.specs.Literal.{IsWithin, has};
 ghost use Rattle.hk_cdcl.specs.Fresh.{AreQuiet};
-ghost use Rattle.hk_cdcl.specs.Path.{is_set};
+ghost use Rattle.hk_cdcl.specs.Path.{is_set, AreSet, IsUnset, cut_at};
 ghost use Rattle.hk_cdcl.specs.Propagation.{IsConflict};
 ghost use Rattle.hk_cdcl.specs.Searching.{IsLogged, IsJump, with_clause, with_row};
-ghost use Rattle.hk_cdcl.specs.States.{Leveled, IsDecided, IsBack, IsClosed, Stepped};
+ghost use Rattle.hk_cdcl.specs.States.{Leveled, IsDecided, IsBack, IsRestarted, IsClosed, Stepped};
 ghost use Rattle.hk_cdcl.specs.Solved.{Satisfies};
 
 use crate::learn::{Learned, learn, refute};
+use crate::order::Order;
+use crate::restarts::Restarts;
+use crate::seen::Seen;
 use crate::trail::Trail;
 use hk_cnf::{Assignment, ClauseList, Lit};
 use hk_lrat::{IdList, LitList, LratLog, LratRow};
@@ -67,6 +70,45 @@ pub struct Search {
     pub trail: Trail,
     /// For each decision that stands, its place on the trail.
     pub levels: Vec<usize>,
+    /// Marks for the analysis of a conflict.
+    pub seen: Seen,
+    /// The order of decisions.
+    pub order: Order,
+    /// When to restart.
+    pub restarts: Restarts,
+}
+
+/// The literal of the variable at a place that has this value.
+fn literal_of(place: u64, value: bool) -> Lit
+    requires { place + 1 < 2 ^ 63 }
+    ensures { (result ≡ pos (place + 1)) ⊎ (result ≡ negsuc place) }
+{
+    let lit = Lit::of_place(place);
+    if value { lit } else { lit.negated() }
+}
+
+/// A variable that is not set: of those in the heap one with the greatest activity. Takes time for all variables only where
+/// none is left in the heap, which is once an answer.
+fn next_unset(order: &mut Order, trail: &Trail) -> Option<u64>
+    ensures { MatchOption result (AreSet trail.now.lits trail.now.vars) (IsUnset trail.now.lits trail.now.vars) }
+{
+    for _ in 0..order.vars() {
+        let Some(var) = order.pop() else {
+            return trail.first_unset();
+        };
+        if trail.is_unset(var as u64) {
+            return Some(var as u64);
+        }
+    }
+    trail.first_unset()
+}
+
+/// Puts the variables of the literals from a place on into the heap, with their values.
+fn release(order: &mut Order, trail: &Trail, kept: usize) {
+    for place in kept..trail.len() {
+        let lit = trail.lit(place);
+        order.insert(lit.place() as usize, !lit.is_negation());
+    }
 }
 
 impl Search {
@@ -78,15 +120,21 @@ impl Search {
     {
         let trail = Trail::new(alloc, list.vars())?;
         let clauses = copy_of(alloc, list)?;
+        let seen = Seen::new(alloc, list.vars())?;
+        let mut order = Order::new(alloc);
+        order.widen(list.vars() as usize)?;
         Ok(Search {
             clauses,
             log: LratLog::new(alloc),
             trail,
             levels: Vec::new(alloc),
+            seen,
+            order,
+            restarts: Restarts::new(),
         })
     }
 
-    /// Makes the variable at a place true as a decision, where unit propagation has nothing left to do.
+    /// Gives the variable at a place the value that it had last as a decision, where unit propagation has nothing left to do.
     fn decide(&mut self, place: u64) -> Result<(), AllocError>
         requires leveled { Leveled self.old }
         requires quiet { AreQuiet (has self.old.trail.lits) self.old.clauses.clauses }
@@ -96,12 +144,13 @@ impl Search {
     {
         let len = self.trail.len();
         self.levels.push(len)?;
-        self.trail.push(Lit::of_place(place), 0);
+        let lit = literal_of(place, self.order.phase(place as usize));
+        self.trail.push(lit, 0);
         let _count = self.trail.len();
         Ok(())
     }
 
-    /// Decides the first variable that is not set, or gives the assignment where all are, where unit propagation has
+    /// Decides a variable that is not set, or gives the assignment where all are, where unit propagation has
     /// nothing left to do.
     fn advance(&mut self, alloc: Global) -> Result<Option<Assignment>, AllocError>
         requires leveled { Leveled self.old }
@@ -109,7 +158,7 @@ impl Search {
         ensures { IfOk result (λ r. MatchOption r (IsDecided self.old self.new) (Satisfies self.old.clauses)) }
     {
         let _within = self.clauses.len();
-        match self.trail.first_unset() {
+        match next_unset(&mut self.order, &self.trail) {
             Some(place) => {
                 self.decide(place)?;
                 Ok(None)
@@ -144,36 +193,73 @@ fn add_row(
 }
 
 impl Search {
-    /// Learns from a conflict, and goes back to the lowest level at which the learned clause is unit. Gives the length of
-    /// the trail then.
-    fn resolve(&mut self, alloc: Global, conflict: usize) -> Result<usize, AllocError>
+    /// Unsets all but the first literals.
+    fn cut(&mut self, kept: usize)
+        requires { kept ≤ length self.old.trail.lits }
+        ensures trail { self.new.trail ≡ cut_at self.old.trail kept }
+        ensures clauses { self.new.clauses ≡ self.old.clauses }
+        ensures log { self.new.log ≡ self.old.log }
+        ensures levels { self.new.levels ≡ self.old.levels }
+        ensures seen { self.new.seen ≡ self.old.seen }
+    {
+        release(&mut self.order, &self.trail, kept);
+        self.trail.cut(kept);
+    }
+
+    /// Learns from a conflict, and goes back to the lowest level at which the learned clause is unit.
+    fn backjump(&mut self, alloc: Global, conflict: usize) -> Result<usize, AllocError>
         requires leveled { Leveled self.old }
         requires some { 0 < length self.old.levels.items }
         requires conflict { IsConflict self.old.clauses.clauses self.old.trail.lits conflict }
         ensures { IfOk result (IsBack self.old self.new) }
     {
         let _path = self.trail.len();
-        let zero = self.levels[0];
         let below = self.levels[self.levels.len() - 1];
         let Learned {
             clause,
             hints,
             rest,
-        } = learn(alloc, &self.clauses, &self.trail, zero, below, conflict)?;
-        let target = drop_levels(&mut self.levels, rest);
+        } = learn(
+            alloc,
+            &self.clauses,
+            &self.trail,
+            below,
+            &mut self.seen,
+            &mut self.order,
+            conflict,
+        )?;
         add_row(&mut self.clauses, &mut self.log, clause, hints)?;
-        self.trail.cut(target);
+        let target = drop_levels(&mut self.levels, rest);
+        self.cut(target);
         Ok(target)
     }
 
+    /// Goes back to level zero where a restart is due. Gives the length of the trail then.
+    fn restart(&mut self) -> usize
+        requires { Leveled self.old }
+        ensures { IsRestarted self.old self.new result }
+    {
+        let len = self.trail.len();
+        if self.levels.is_empty() {
+            return len;
+        }
+        if !self.restarts.is_due() {
+            return len;
+        }
+        let zero = self.levels[0];
+        self.levels.truncate(0);
+        self.cut(zero);
+        zero
+    }
+
     /// Adds the empty clause, from a conflict before the first decision.
-    fn close(&mut self, alloc: Global, conflict: usize) -> Result<(), AllocError>
+    fn learn_empty(&mut self, alloc: Global, conflict: usize) -> Result<(), AllocError>
         requires leveled { Leveled self.old }
         requires none { length self.old.levels.items ≡ 0 }
         requires conflict { IsConflict self.old.clauses.clauses self.old.trail.lits conflict }
         ensures { OnOk result (IsClosed self.old self.new) }
     {
-        let hints = refute(alloc, &self.clauses, &self.trail, conflict)?;
+        let hints = refute(alloc, &self.clauses, &self.trail, &mut self.seen, conflict)?;
         add_row(&mut self.clauses, &mut self.log, Vec::new(alloc), hints)?;
         Ok(())
     }
@@ -207,13 +293,15 @@ impl Search {
         ensures { IfOk result (Stepped budget self.old self.new) }
     {
         if self.levels.is_empty() {
-            self.close(alloc, conflict)?;
+            self.learn_empty(alloc, conflict)?;
             return Ok(Step::Unsat);
         }
         if self.log.len() as u64 >= budget {
             return Ok(Step::Spent);
         }
-        let length = self.resolve(alloc, conflict)?;
+        self.backjump(alloc, conflict)?;
+        self.order.decay();
+        let length = self.restart();
         Ok(Step::Back(length))
     }
 
@@ -247,6 +335,9 @@ impl Search {
             log,
             trail: _,
             levels: _,
+            seen: _,
+            order: _,
+            restarts: _,
         } = self;
         log
     }

@@ -8,8 +8,9 @@ ghost use Rattle.hk_cdcl.specs.Fresh.{IsSpent};
 ghost use Rattle.hk_cdcl.specs.Solved.{Satisfies};
 ghost use Rattle.hk_cdcl.specs.Ends.{IfSat, IfUnsat, IfSpent, Ends};
 
-use crate::propagate::{FullScan, Propagate};
+use crate::propagate::Propagate;
 use crate::search::{Search, Step};
+use crate::watched::Watched;
 use hk_cnf::{Assignment, ClauseList};
 use hk_lrat::LratLog;
 use std::alloc::{AllocError, Global};
@@ -67,6 +68,6 @@ pub fn solve(alloc: Global, list: &ClauseList, budget: u64) -> Result<SolveEnd, 
     ensures spent { IfOk result (IfSpent (λ log. IsSpent list.now log budget)) }
     ensures decided { 3 ^ list.now.vars < budget → IfOk result (IfSpent (λ _. ⊥)) }
 {
-    let mut scans = FullScan;
-    solve_with(alloc, list, budget, &mut scans)
+    let mut watched = Watched::new(alloc);
+    solve_with(alloc, list, budget, &mut watched)
 }

@@ -1,8 +1,8 @@
 //! The trail: the literals that are true, in the order in which they became so.
 
-ghost use Rattle.std.specs.Prelude.{◌≡◌, ◌==◌, ℕ, ◌-◌, ◌<◌, ◌≤◌, ◌^◌, [], false, length, neg_ℤ, slice_index, IfOk, MatchOption};
+ghost use Rattle.std.specs.Prelude.{◌≡◌, ◌==◌, ℕ, ◌-◌, ◌<◌, ◌≤◌, ◌^◌, [], false, length, neg_ℤ, slice_index, IfOk, IsTrue, MatchOption};
 ghost use Rattle.hk_cnf.specs.Literal.{IsWithin, place_of, has};
-ghost use Rattle.hk_cdcl.specs.Path.{IsPath, with_step, cut_at, lit_at, is_set, AreSet, IsFirstUnset, AreTruths};
+ghost use Rattle.hk_cdcl.specs.Path.{IsPath, with_step, cut_at, lit_at, is_set, AreSet, IsUnset, AreTruths};
 
 use hk_cnf::Lit;
 use std::alloc::{AllocError, Global};
@@ -154,9 +154,16 @@ impl Trail {
         self.holds(lit) || self.holds(lit.negated())
     }
 
-    /// The place of the first variable that is not set.
+    /// Whether the variable at this place is one of the trail's and not set.
+    pub fn is_unset(&self, place: u64) -> bool
+        ensures { IsTrue result → IsUnset self.now.lits self.now.vars place }
+    {
+        place < self.vars && !self.is_set(place)
+    }
+
+    /// The place of a variable that is not set: the first one.
     pub fn first_unset(&self) -> Option<u64>
-        ensures { MatchOption result (AreSet self.now.lits self.now.vars) (IsFirstUnset self.now.lits self.now.vars) }
+        ensures { MatchOption result (AreSet self.now.lits self.now.vars) (IsUnset self.now.lits self.now.vars) }
     {
         for place in 0..self.vars {
             if !self.is_set(place) {

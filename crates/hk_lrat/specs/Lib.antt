@@ -2,6 +2,7 @@ pub mod Checked
 pub mod Entries
 pub mod LitLists
 pub mod Log
+pub mod Raised
 pub mod LogText
 pub mod Marks
 pub mod Refutes

@@ -10,6 +10,7 @@ mod log;
 mod log_read;
 mod marks;
 mod refutation;
+mod renumber;
 mod table;
 mod token;
 
@@ -17,3 +18,4 @@ pub use checker::Checker;
 pub use log::{IdList, LitList, LratLog, LratRow, RefuteStop, RowReason};
 pub use log_read::read_log;
 pub use refutation::refutes;
+pub use renumber::raise;

@@ -1,10 +1,13 @@
 //! Logs of additions and deletions, and why one is refused.
 
-ghost use Rattle.std.specs.Prelude.{◌≡◌, ◌==◌, ◌++◌, [], ◌∷◌, length, IfOk, OnOk, OnErr};
+ghost use Rattle.std.specs.Prelude.{◌≡◌, ◌==◌, ◌++◌, [], ◌∷◌, length, map, IfOk, OnOk, OnErr};
+ghost use Rattle.std.specs.List.{All};
 ghost use Rattle.hk_lrat.specs.declared.log.RefuteStop.TheVariants.{Memory};
 ghost use Rattle.hk_lrat.specs.LitLists.{literals_of};
 ghost use Rattle.hk_lrat.specs.Log.{is_nil, is_empty_addition};
+ghost use Rattle.hk_lrat.specs.Raised.{raised_id, raised_row, raised, Fits, RowFits};
 
+use crate::renumber::{raise_ids, raised_id};
 use hk_cnf::Lit;
 use std::alloc::{AllocError, AllocFailed, Global};
 use std::marker::Model;
@@ -183,6 +186,14 @@ impl IdList {
         Ok(())
     }
 
+    /// Raises the ids over `from`.
+    fn raise(&mut self, from: u64, by: u64)
+        requires { All (Fits from by) self.old }
+        ensures { self.new ≡ map (raised_id from by) self.old }
+    {
+        raise_ids(&mut self.items, from, by);
+    }
+
     /// The ids.
     pub fn as_slice(&self) -> &[u64]
         ensures { result.now ≡ self.now }
@@ -207,6 +218,20 @@ pub enum LratRow {
 }
 
 impl LratRow {
+    /// Raises the ids over `from`.
+    fn raise(&mut self, from: u64, by: u64)
+        requires { RowFits from by self.old }
+        ensures { self.new ≡ raised_row from by self.old }
+    {
+        match self {
+            LratRow::Add { id, hints, .. } => {
+                *id = raised_id(*id, from, by);
+                hints.raise(from, by);
+            }
+            LratRow::Delete { ids } => ids.raise(from, by),
+        }
+    }
+
     /// Whether the row adds the empty clause.
     pub fn is_empty_addition(&self) -> bool
         ensures { result ≡ is_empty_addition self.now }
@@ -250,6 +275,16 @@ impl LratLog {
     {
         self.rows.push(row)?;
         Ok(())
+    }
+
+    /// Raises the ids over `from` of all rows.
+    pub fn raise(&mut self, from: u64, by: u64)
+        requires { All (RowFits from by) self.old }
+        ensures { self.new ≡ raised from by self.old }
+    {
+        for row in self.rows.iter_mut() {
+            row.raise(from, by);
+        }
     }
 
     /// The rows.

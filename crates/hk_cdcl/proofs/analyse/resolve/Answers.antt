@@ -1,9 +1,0 @@
-use Rattle.std.proofs.Common.{sym, ◌∙◌, subst}
-use Rattle.hk_cdcl.specs.Analysis.{Marks}
-use Rattle.hk_cdcl.proofs.Resolving.{resolved-marks}
-use Rattle.hk_cdcl.proofs.analyse.resolve.Goals as goal
-
-pub returns-then-is_seen : goal.returns-then-is_seen
-returns-then-is_seen c =
-    resolved-marks c.args.clauses.now.clauses c.args.trail.now c.args.seen.now c.mark_all.new.seen c.args.place c.requires.apart c.requires.reason c.requires.inside
-    (sym c.is_seen.ensures ∙ c.if-is_seen.true) (subst (Marks c.args.seen.now c.mark_all.new.seen) c.reason_of.ensures.same c.mark_all.ensures)

@@ -1,0 +1,29 @@
+use Rattle.std.proofs.Common.{◌≡◌, ◌+◌, ◌-◌, ◌<◌, length, get_or, sym, ◌∙◌, ap, subst, arith}
+use Rattle.std.specs.Vec.{vec_len}
+use Rattle.std.proofs.lemmas.Grind.{common_steps}
+use Rattle.std.proofs.lemmas.List.{get_or_default}
+use Rattle.hk_cdcl.specs.Searching.{IsJump}
+use Rattle.hk_cdcl.proofs.Leveling.{level-last}
+use Rattle.hk_cdcl.proofs.Going.{back-of}
+use Rattle.hk_cdcl.proofs.search.Search.backjump.Goals as goal
+
+pub returns : goal.returns
+returns c =
+    let n : vec_len c.args.self.now.levels ≡ length c.args.self.now.levels.items = grind (arith, common_steps) in
+    let some : 0 < length c.args.self.now.levels.items = c.requires.some in
+    let l : c.len.result ≡ vec_len c.args.self.now.levels = c.len.ensures in
+    let last : (c.len.result - 1) + 1 ≡ length c.args.self.now.levels.items = omega (arith, n, some, l) in
+    let below : c.index-below.result.now ≡ get_or c.args.self.now.levels.items (c.len.result - 1) 0 = c.index-below.ensures ∙ get_or_default c.args.self.now.levels.items (c.len.result - 1) c.index-below.result.now 0 (omega (arith, last)) in
+    back-of c.args.self.now c.cut.new.self (c.len.result - 1) c.index-below.result.now c.in_ok-clause.field-0.rest c.drop_levels-target.result c.in_ok-clause.field-0.clause.items c.in_ok-clause.field-0.hints
+    c.len-path.ensures.path c.requires.leveled last below c.in_ok-clause.ensures.learned
+    (subst (λ v. IsJump c.args.self.now.levels.items (v).items c.in_ok-clause.field-0.rest c.drop_levels-target.result) (sym c.cut.ensures.levels) c.drop_levels-target.ensures)
+    (c.cut.ensures.clauses ∙ c.in_ok-add_row.ensures.clauses) (c.cut.ensures.log ∙ c.in_ok-add_row.ensures.log) c.cut.ensures.trail (ap length c.cut.ensures.seen ∙ c.in_ok-clause.ensures.len)
+
+pub learn-requires-clause-level : goal.learn-requires-clause-level
+learn-requires-clause-level c =
+    let n : vec_len c.args.self.now.levels ≡ length c.args.self.now.levels.items = grind (arith, common_steps) in
+    let some : 0 < length c.args.self.now.levels.items = c.requires.some in
+    let l : c.len.result ≡ vec_len c.args.self.now.levels = c.len.ensures in
+    let last : (c.len.result - 1) + 1 ≡ length c.args.self.now.levels.items = omega (arith, n, some, l) in
+    let below : c.index-below.result.now ≡ get_or c.args.self.now.levels.items (c.len.result - 1) 0 = c.index-below.ensures ∙ get_or_default c.args.self.now.levels.items (c.len.result - 1) c.index-below.result.now 0 (omega (arith, last)) in
+    level-last c.args.self.now.clauses c.args.self.now.trail c.args.self.now.levels.items (c.len.result - 1) c.index-below.result.now c.requires.leveled.0 last below
