@@ -22,7 +22,9 @@ use std::{env, io};
 const LIMIT: u32 = 16_777_216;
 
 /// How many items a kernel has.
-fn counts(alloc: Global, kernel: &Module) -> Result<String, AllocError> {
+fn counts(alloc: Global, kernel: &Module) -> Result<String, AllocError>
+    requires { IsSmall kernel.now }
+{
     format!(in alloc;
         "{} types, {} globals, {} functions, {} ranges",
         kernel.types.len(),
