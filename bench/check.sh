@@ -28,17 +28,17 @@ count, size = int(sys.argv[4]), int(sys.argv[5])
 def ladder(instructions):
     """Five instructions a block; each block is led to by the two before it."""
     blocks = instructions // 5
-    lines = ['define i32 @f(i32 %a) {', 'b0:', '  %p0 = add i32 %a, 0', '  %c0 = icmp ult i32 %p0, 7', '  %r0 = add i32 %p0, 1',
-             '  %s0 = xor i32 %r0, %p0', '  br i1 %c0, label %b1, label %b2',
-             'b1:', '  %p1 = phi i32 [ %r0, %b0 ]', '  %c1 = icmp ult i32 %p1, 1', '  %r1 = add i32 %p1, 1', '  %s1 = xor i32 %r1, %p0',
+    lines = ['define i32 @f(i32 %a) {', 'b0:', '  %p0 = add i32 %a, 0', '  %c0 = icmp ult i32 %p0, 7', '  %n0 = add i32 %p0, 1',
+             '  %s0 = xor i32 %n0, %p0', '  br i1 %c0, label %b1, label %b2',
+             'b1:', '  %p1 = phi i32 [ %n0, %b0 ]', '  %c1 = icmp ult i32 %p1, 1', '  %n1 = add i32 %p1, 1', '  %s1 = xor i32 %n1, %p0',
              '  br i1 %c1, label %b2, label %b3']
     for k in range(2, blocks - 2):
-        lines += [f'b{k}:', f'  %p{k} = phi i32 [ %r{k - 1}, %b{k - 1} ], [ %r{k - 2}, %b{k - 2} ]', f'  %c{k} = icmp ult i32 %p{k}, {k}',
-                  f'  %r{k} = add i32 %p{k}, 1', f'  %s{k} = xor i32 %r{k}, %p0', f'  br i1 %c{k}, label %b{k + 1}, label %b{k + 2}']
+        lines += [f'b{k}:', f'  %p{k} = phi i32 [ %n{k - 1}, %b{k - 1} ], [ %n{k - 2}, %b{k - 2} ]', f'  %c{k} = icmp ult i32 %p{k}, {k}',
+                  f'  %n{k} = add i32 %p{k}, 1', f'  %s{k} = xor i32 %n{k}, %p0', f'  br i1 %c{k}, label %b{k + 1}, label %b{k + 2}']
     k = blocks - 2
-    lines += [f'b{k}:', f'  %p{k} = phi i32 [ %r{k - 1}, %b{k - 1} ], [ %r{k - 2}, %b{k - 2} ]', f'  %r{k} = add i32 %p{k}, 1',
+    lines += [f'b{k}:', f'  %p{k} = phi i32 [ %n{k - 1}, %b{k - 1} ], [ %n{k - 2}, %b{k - 2} ]', f'  %n{k} = add i32 %p{k}, 1',
               f'  br label %b{k + 1}',
-              f'b{k + 1}:', f'  %p{k + 1} = phi i32 [ %r{k}, %b{k} ], [ %r{k - 1}, %b{k - 1} ]', f'  ret i32 %p{k + 1}', '}']
+              f'b{k + 1}:', f'  %p{k + 1} = phi i32 [ %n{k}, %b{k} ], [ %n{k - 1}, %b{k - 1} ]', f'  ret i32 %p{k + 1}', '}']
     return '\n'.join(lines) + '\n'
 
 def copies(mebibytes):

@@ -23,4 +23,8 @@ pub use value::{Made, StuckReason, Value};
 pub use widths::{convert, freeze, select};
 
 #[cfg(test)]
+mod division_tests;
+#[cfg(test)]
+mod number_tests;
+#[cfg(test)]
 mod tests;
