@@ -77,16 +77,16 @@ pub record Step : Type 0 where
   pub result : Option ℕ
 
 -- the end of a transition: the end state is the returned one where `valid` holds, and the state that came in otherwise
-abbrev pub step_of : Context → Env → Transition → Step
-step_of c v t =
+abbrev pub step_of : Context → Env → Transition → State → Step
+step_of c v t state =
     record {
         valid = holds (value c v t.valid);
-        state = if holds (value c v t.valid) && t.returns_new then v.new else v.old;
+        state = if holds (value c v t.valid) && t.returns_new then v.new else state;
         result = option_map (value c v) t.result
     }
 
 abbrev pub transition : Spec → Transition → State → List ℕ → Step
-transition s t state args = step_of (behind_lines s t) (after_lines (over_step s t.widths) (in_step state args) t.lines) t
+transition s t state args = step_of (behind_lines s t) (after_lines (over_step s t.widths) (in_step state args) t.lines) t state
 
 -- a returned number meets the specified result; where only `valid, new` is returned, it is 0 exactly where `valid` holds
 abbrev pub meets_result : Option ℕ → Bool → ℕ → Bool
