@@ -176,6 +176,12 @@ abbrev mutual
 
 -- ---- specifications
 
+-- what may be named has 1 to 64 bits
+pub record HasWidths (c : Context) : Type 0 where
+  pub fields : All (λ f. IsWidth f.width) c.fields
+  pub args : All IsWidth c.args
+  pub locals : All IsWidth c.locals
+
 -- local names, each of which may read the earlier ones
 abbrev pub AreLocals : Context → List Tree → Type 0
 AreLocals c [] = Unit {0}

@@ -3,7 +3,7 @@
 ghost use Rattle.std.specs.Prelude.{◌≡◌, ◌<◌, ◌≤◌, ◌*◌, ◌+◌, ◌^◌, ◌∷◌, ℕ, List, Some, None, All, length, slice_get, slice_index, slice_index_or};
 ghost use Rattle.spec_tree.specs.Plain as plain;
 ghost use Rattle.spec_tree.specs.Plain.{Key, Tree, Trees, entry, write_line};
-ghost use Rattle.spec_tree.specs.Sorted.{Context, FieldSort, IsSorted, IsTransition, IsWellSorted, AreLocals, no_field, product, key_sizes, width_of, with_bounds, with_locals, field_sorts};
+ghost use Rattle.spec_tree.specs.Sorted.{Context, FieldSort, IsWidth, HasWidths, IsSorted, IsTransition, IsWellSorted, AreLocals, over_kernel, over_state, over_step, no_field, product, key_sizes, width_of, with_bounds, with_locals, field_sorts};
 ghost use Rattle.spec_tree.specs.Value.{Env, value, values, place_behind, tuples, binding};
 ghost use Rattle.spec_tree.specs.Shapes.{Fits, AreNumbers, AreBelow, IsState, IsMemory};
 ghost use Rattle.spec_tree.specs.Meaning.{State, Memory, with_values, abstraction, after_lines, transition};
@@ -15,6 +15,15 @@ pub fn values_have_their_widths()
     ensures below { (c : Context) (v : Env) → Fits c v → (e : Tree) → IsSorted c e → value c v e < 2 ^ width_of c e }
     ensures variables { (c : Context) (v : Env) → Fits c v → (sizes t : List ℕ) → AreBelow sizes t → Fits (with_bounds c sizes) (binding v t) }
     ensures locals { (c : Context) (v : Env) → Fits c v → (es : List Tree) → AreLocals c es → Fits (with_locals c es) (with_values c v es) }
+{}
+
+/// The width of a well-sorted expression is from 1 to 64, wherever a specification stands.
+pub fn widths_are_from_1_to_64()
+    ensures width { (c : Context) → HasWidths c → (e : Tree) → IsSorted c e → IsWidth (width_of c e) }
+    ensures locals { (c : Context) → HasWidths c → (es : List Tree) → AreLocals c es → HasWidths (with_locals c es) }
+    ensures kernel { (s : plain.Spec) → IsWellSorted s → HasWidths (over_kernel s) }
+    ensures state { (s : plain.Spec) → IsWellSorted s → HasWidths (over_state s) }
+    ensures step { (s : plain.Spec) → IsWellSorted s → (widths : List ℕ) → All IsWidth widths → HasWidths (over_step s widths) }
 {}
 
 /// There are as many index tuples as the product of the sizes, and each index is below its size.
