@@ -1,15 +1,15 @@
 -- Where an index tuple stands among those of a field, and what tuples there are.
-use Rattle.std.proofs.Common.{◌≡◌, ◌+◌, ◌*◌, ◌<◌, ◌≤◌, ℕ, zero, suc, Bool, true, false, Option, Some, None, List, [], ◌∷◌, ◌++◌, map, length, arith, ap, sym, ◌∙◌, subst, refl, inl, inr}
+use Rattle.std.proofs.Common.{◌≡◌, ◌+◌, ◌*◌, ◌/◌, ◌%◌, ◌<◌, ◌≤◌, ℕ, zero, suc, Bool, true, false, Option, Some, None, List, [], ◌∷◌, ◌++◌, map, length, arith, ap, sym, ◌∙◌, subst, refl, inl, inr}
 use Rattle.std.specs.Prelude.{slice_get, slice_index, slice_index_or, All, if◌then◌else◌, nat_lt}
 use Rattle.std.specs.List.{flat_map}
-use Rattle.std.proofs.Math.Nat.{mul-le-mul_right, mul_assoc}
-use Rattle.std.proofs.lemmas.Bool.{ltb-true, le-ltb}
-use Rattle.std.proofs.lemmas.List.{length-map, length-append}
+use Rattle.std.proofs.Math.Nat.{mul-le-mul_right, mul_assoc, mod-lt, div-add-mod, div-lt_iff_lt-mul}
+use Rattle.std.proofs.lemmas.Bool.{ltb-true, le-ltb, cases_lt}
+use Rattle.std.proofs.lemmas.List.{length-map, length-append, get_or_append_left, get_or-append-add, get_or-map}
 use Rattle.std.proofs.lemmas.Grind.{flat_map-append}
 use Rattle.std.proofs.lemmas.List.Elements.{All-append, All-push, All-map}
 use Rattle.spec_tree.specs.Plain.{Key, Trees, entry}
 use Rattle.spec_tree.specs.Sorted.{Context, no_field, product, key_sizes}
-use Rattle.spec_tree.specs.Value.{Env, state_of, entry_at, place_behind, value, values, below, tuples}
+use Rattle.spec_tree.specs.Value.{Env, state_of, entry_at, place_behind, value, values, below, tuples, tuple_at}
 use Rattle.spec_tree.specs.Shapes.{AreBelow}
 use Rattle.spec_tree.specs.declared.expr.StateName.{StateName}
 
@@ -74,3 +74,44 @@ all_below [] = All-push (AreBelow []) [] [] (λ k d l. absurd (omega (arith, l))
 all_below (n ∷ ns) =
     rows_hold (AreBelow (n ∷ ns)) (λ i. map (λ t. i ∷ t) (tuples ns)) n
     (λ i low. All-map (AreBelow (n ∷ ns)) (λ t. i ∷ t) (tuples ns) (λ k d l. (low, all_below ns k d l)))
+
+-- ---- the k-th tuple
+
+row_at : (f : ℕ → List (List ℕ)) (m n i j : ℕ) (d : List ℕ) → ((i : ℕ) → length (f i) ≡ m) → i < n → j < m → slice_index_or (flat_map f (below n)) (i * m + j) d ≡ slice_index_or (f i) j d
+row_at f m zero i j d h low short = absurd (omega (arith, low))
+row_at f m (suc n) i j d h low short =
+    let e : flat_map f (below n ++ n ∷ []) ≡ flat_map f (below n) ++ flat_map f (n ∷ []) = flat_map-append f (below n) (n ∷ []) in
+    let before : length (flat_map f (below n)) ≡ n * m = rows f m n h in
+    ap (λ l. slice_index_or l (i * m + j) d) e ∙ elim (cases_lt i n) [
+      | inl l ↦
+        let whole : (i + 1) * m ≤ n * m = mul-le-mul_right m (omega (arith, l)) in
+        let split : (i + 1) * m ≡ i * m + m = omega arith in
+        get_or_append_left (flat_map f (below n)) (flat_map f (n ∷ [])) d (i * m + j) (omega (arith, before, whole, split, short))
+        ∙ row_at f m n i j d h l short
+      | inr l ↦
+        let same : i ≡ n = omega (arith, l, low) in
+        let place : i * m + j ≡ length (flat_map f (below n)) + j = ap (λ k. k * m + j) same ∙ omega (arith, before) in
+        ap (λ k. slice_index_or (flat_map f (below n) ++ flat_map f (n ∷ [])) k d) place
+        ∙ get_or-append-add (flat_map f (below n)) (flat_map f (n ∷ [])) j d
+        ∙ get_or_append_left (f n) [] d j (omega (arith, h n, short))
+        ∙ ap (λ k. slice_index_or (f k) j d) (sym same)
+    ]
+
+positive : (n p k : ℕ) → k < n * p → 0 < p
+positive n zero k h = let e : n * 0 ≡ 0 = omega arith in absurd (omega (arith, h, e))
+positive n (suc p) k h = omega arith
+
+pub tuple_is : (sizes : List ℕ) (k : ℕ) (d : List ℕ) → k < product sizes → slice_index_or (tuples sizes) k d ≡ tuple_at sizes k
+tuple_is [] zero d h = refl
+tuple_is [] (suc k) d h = absurd (omega (arith, h))
+tuple_is (n ∷ ns) k d h =
+    let p = product ns in
+    let f : ℕ → List (List ℕ) = λ i. map (λ t. i ∷ t) (tuples ns) in
+    let some : 0 < p = positive n p k h in
+    let low : k / p < n = (div-lt_iff_lt-mul some).1 h in
+    let short : k % p < p = mod-lt k some in
+    let place : k ≡ k / p * p + k % p = omega (arith, div-add-mod k p) in
+    ap (λ i. slice_index_or (flat_map f (below n)) i d) place
+    ∙ row_at f p n (k / p) (k % p) d (λ i. length-map (tuples ns) (λ t. i ∷ t) ∙ how_many ns) low short
+    ∙ get_or-map (λ t. k / p ∷ t) (tuples ns) (k % p) d d (omega (arith, short, how_many ns))
+    ∙ ap (λ t. k / p ∷ t) (tuple_is ns (k % p) d short)

@@ -11,7 +11,7 @@ use Rattle.spec_tree.specs.declared.expr.ResizeKind.TheVariants.{ZeroExt, SignEx
 use Rattle.spec_tree.specs.declared.expr.StateName.{StateName}
 use Rattle.spec_tree.specs.declared.expr.StateName.TheVariants.{Old, New}
 use Rattle.spec_tree.specs.Plain.{Key, Tree, constant, argument, bound, local, entry, path, unary, binary, all_of, any_of, choose, resize, for_all, exists, Trees, no_trees, tree_and, Steps, no_steps, step_and}
-use Rattle.spec_tree.specs.Sorted.{Context, no_field, width_of, with_bounds}
+use Rattle.spec_tree.specs.Sorted.{Context, no_field, product, width_of, with_bounds}
 
 -- what an expression reads: a state is one list of numbers per field, in the order of the index tuples; a memory one list of bytes per
 -- object
@@ -41,6 +41,11 @@ below (suc n) = below n ++ n ∷ []
 abbrev pub tuples : List ℕ → List (List ℕ)
 tuples [] = [] ∷ []
 tuples (n ∷ ns) = flat_map (λ i. map (λ t. i ∷ t) (tuples ns)) (below n)
+
+-- the k-th of these tuples
+abbrev pub tuple_at : List ℕ → ℕ → List ℕ
+tuple_at [] k = []
+tuple_at (n ∷ ns) k = k / product ns ∷ tuple_at ns (k % product ns)
 
 -- the place of an index tuple in that order, behind the place of the earlier indices; none where an index is not below its size
 abbrev pub place_behind : ℕ → List Key → List ℕ → Option ℕ

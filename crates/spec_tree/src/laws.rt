@@ -4,7 +4,7 @@ ghost use Rattle.std.specs.Prelude.{◌≡◌, ◌<◌, ◌≤◌, ◌*◌, ◌+
 ghost use Rattle.spec_tree.specs.Plain as plain;
 ghost use Rattle.spec_tree.specs.Plain.{Key, Tree, Trees, entry, write_line};
 ghost use Rattle.spec_tree.specs.Sorted.{Context, FieldSort, IsWidth, HasWidths, IsSorted, IsTransition, IsWellSorted, AreLocals, over_kernel, over_state, over_step, no_field, product, key_sizes, width_of, with_bounds, with_locals, field_sorts};
-ghost use Rattle.spec_tree.specs.Value.{Env, value, values, place_behind, tuples, binding};
+ghost use Rattle.spec_tree.specs.Value.{Env, value, values, place_behind, tuples, tuple_at, binding};
 ghost use Rattle.spec_tree.specs.Shapes.{Fits, AreNumbers, AreBelow, IsState, IsMemory};
 ghost use Rattle.spec_tree.specs.Meaning.{State, Memory, with_values, abstraction, after_lines, transition};
 ghost use Rattle.spec_tree.specs.declared.expr.StateName.{StateName};
@@ -26,10 +26,12 @@ pub fn widths_are_from_1_to_64()
     ensures step { (s : plain.Spec) → IsWellSorted s → (widths : List ℕ) → All IsWidth widths → HasWidths (over_step s widths) }
 {}
 
-/// There are as many index tuples as the product of the sizes, and each index is below its size.
+/// There are as many index tuples as the product of the sizes, each index is below its size, and the k-th is known by
+/// its place.
 pub fn tuples_are_those_below_the_sizes()
     ensures number { (sizes : List ℕ) → length (tuples sizes) ≡ product sizes }
     ensures below { (sizes : List ℕ) → All (AreBelow sizes) (tuples sizes) }
+    ensures place { (sizes : List ℕ) (k : ℕ) (default : List ℕ) → k < product sizes → slice_index_or (tuples sizes) k default ≡ tuple_at sizes k }
 {}
 
 /// An index at or past its size reads 0 and writes nothing; where no index is, the place is one of the field's entries.
