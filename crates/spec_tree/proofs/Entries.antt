@@ -84,17 +84,17 @@ row_at f m (suc n) i j d h low short =
     let before : length (flat_map f (below n)) ≡ n * m = rows f m n h in
     ap (λ l. slice_index_or l (i * m + j) d) e ∙ elim (cases_lt i n) [
       | inl l ↦
-        let whole : (i + 1) * m ≤ n * m = mul-le-mul_right m (omega (arith, l)) in
-        let split : (i + 1) * m ≡ i * m + m = omega arith in
-        get_or_append_left (flat_map f (below n)) (flat_map f (n ∷ [])) d (i * m + j) (omega (arith, before, whole, split, short))
-        ∙ row_at f m n i j d h l short
+          let whole : (i + 1) * m ≤ n * m = mul-le-mul_right m (omega (arith, l)) in
+          let split : (i + 1) * m ≡ i * m + m = omega arith in
+          get_or_append_left (flat_map f (below n)) (flat_map f (n ∷ [])) d (i * m + j) (omega (arith, before, whole, split, short))
+          ∙ row_at f m n i j d h l short
       | inr l ↦
-        let same : i ≡ n = omega (arith, l, low) in
-        let place : i * m + j ≡ length (flat_map f (below n)) + j = ap (λ k. k * m + j) same ∙ omega (arith, before) in
-        ap (λ k. slice_index_or (flat_map f (below n) ++ flat_map f (n ∷ [])) k d) place
-        ∙ get_or-append-add (flat_map f (below n)) (flat_map f (n ∷ [])) j d
-        ∙ get_or_append_left (f n) [] d j (omega (arith, h n, short))
-        ∙ ap (λ k. slice_index_or (f k) j d) (sym same)
+          let same : i ≡ n = omega (arith, l, low) in
+          let place : i * m + j ≡ length (flat_map f (below n)) + j = ap (λ k. k * m + j) same ∙ omega (arith, before) in
+          ap (λ k. slice_index_or (flat_map f (below n) ++ flat_map f (n ∷ [])) k d) place
+          ∙ get_or-append-add (flat_map f (below n)) (flat_map f (n ∷ [])) j d
+          ∙ get_or_append_left (f n) [] d j (omega (arith, h n, short))
+          ∙ ap (λ k. slice_index_or (f k) j d) (sym same)
     ]
 
 positive : (n p k : ℕ) → k < n * p → 0 < p

@@ -45,12 +45,11 @@ entries_fit s memory h locals f i =
     let c = with_locals (over_kernel s) s.equation_locals in
     let v = with_values (over_kernel s) (in_memory memory) s.equation_locals in
     let fits : Fits c v = locals_fit (over_kernel s) (in_memory memory) (memory_fits s memory h) s.equation_locals locals in
-    let sizes = key_sizes f.keys in
-    (
-        length-map (tuples sizes) (entry_value s memory f) ∙ how_many sizes,
-        All-map (λ n. n < 2 ^ f.width) (entry_value s memory f) (tuples sizes)
-        (λ k d l. subst (λ w. entry_value s memory f (slice_index_or (tuples sizes) k d) < 2 ^ w) i.given
-        (value_below (over_keys s f) (binding v (slice_index_or (tuples sizes) k d)) (variables_fit c v fits sizes (slice_index_or (tuples sizes) k d) (all_below sizes k d l)) f.value i.sorted))
+    let sizes = key_sizes f.keys in (
+      length-map (tuples sizes) (entry_value s memory f) ∙ how_many sizes,
+      All-map (λ n. n < 2 ^ f.width) (entry_value s memory f) (tuples sizes)
+          (λ k d l. subst (λ w. entry_value s memory f (slice_index_or (tuples sizes) k d) < 2 ^ w) i.given
+          (value_below (over_keys s f) (binding v (slice_index_or (tuples sizes) k d)) (variables_fit c v fits sizes (slice_index_or (tuples sizes) k d) (all_below sizes k d l)) f.value i.sorted)),
     )
 
 states_fit : (s : Spec) (memory : Memory) → IsMemory s.objects memory → AreLocals (over_kernel s) s.equation_locals → (fs : List Field) → All (IsField s) fs → IsState (map sort_of fs) (map (field_entries s memory) fs)

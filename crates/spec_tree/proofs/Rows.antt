@@ -17,25 +17,25 @@ field ks w = record { keys = ks; width = w }
 abbrev names : Context
 names =
     record {
-        fields = field [] 8 ∷ field (key 4 3 ∷ []) 8 ∷ field (key 4 2 ∷ key 8 3 ∷ []) 16 ∷ [];
-        objects = 8 ∷ 4 ∷ [];
-        args = 8 ∷ 16 ∷ 64 ∷ 1 ∷ [];
-        locals = 8 ∷ 4 ∷ [];
-        bounds = [];
-        kernel = true;
-        old = true;
-        new = true
+      fields = field [] 8 ∷ field (key 4 3 ∷ []) 8 ∷ field (key 4 2 ∷ key 8 3 ∷ []) 16 ∷ [];
+      objects = 8 ∷ 4 ∷ [];
+      args = 8 ∷ 16 ∷ 64 ∷ 1 ∷ [];
+      locals = 8 ∷ 4 ∷ [];
+      bounds = [];
+      kernel = true;
+      old = true;
+      new = true;
     }
 
 abbrev reading : Env
 reading =
     record {
-        old = (7 ∷ []) ∷ (1 ∷ 2 ∷ 250 ∷ []) ∷ (10 ∷ 20 ∷ 30 ∷ 40 ∷ 50 ∷ 60000 ∷ []) ∷ [];
-        new = (9 ∷ []) ∷ (128 ∷ 5 ∷ 0 ∷ []) ∷ (1 ∷ 2 ∷ 3 ∷ 4 ∷ 5 ∷ 6 ∷ []) ∷ [];
-        memory = (1 ∷ 2 ∷ 3 ∷ 4 ∷ 5 ∷ 6 ∷ 7 ∷ 8 ∷ []) ∷ (255 ∷ 128 ∷ 0 ∷ 127 ∷ []) ∷ [];
-        args = 200 ∷ 513 ∷ 9223372036854775813 ∷ 1 ∷ [];
-        locals = 129 ∷ 9 ∷ [];
-        bounds = []
+      old = (7 ∷ []) ∷ (1 ∷ 2 ∷ 250 ∷ []) ∷ (10 ∷ 20 ∷ 30 ∷ 40 ∷ 50 ∷ 60000 ∷ []) ∷ [];
+      new = (9 ∷ []) ∷ (128 ∷ 5 ∷ 0 ∷ []) ∷ (1 ∷ 2 ∷ 3 ∷ 4 ∷ 5 ∷ 6 ∷ []) ∷ [];
+      memory = (1 ∷ 2 ∷ 3 ∷ 4 ∷ 5 ∷ 6 ∷ 7 ∷ 8 ∷ []) ∷ (255 ∷ 128 ∷ 0 ∷ 127 ∷ []) ∷ [];
+      args = 200 ∷ 513 ∷ 9223372036854775813 ∷ 1 ∷ [];
+      locals = 129 ∷ 9 ∷ [];
+      bounds = [];
     }
 
 abbrev told : Tree → ℕ

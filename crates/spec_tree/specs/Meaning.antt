@@ -80,9 +80,9 @@ pub record Step : Type 0 where
 abbrev pub step_of : Context → Env → Transition → State → Step
 step_of c v t state =
     record {
-        valid = holds (value c v t.valid);
-        state = if holds (value c v t.valid) && t.returns_new then v.new else state;
-        result = option_map (value c v) t.result
+      valid = holds (value c v t.valid);
+      state = if holds (value c v t.valid) && t.returns_new then v.new else state;
+      result = option_map (value c v) t.result;
     }
 
 abbrev pub transition : Spec → Transition → State → List ℕ → Step

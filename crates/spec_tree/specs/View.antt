@@ -111,24 +111,24 @@ view_line (Write w) = plain.write_line w.field (view_expr_list w.index) (view_ex
 abbrev pub view_transition : Transition → plain.Transition
 view_transition t =
     record {
-        line = t.line;
-        name = t.name;
-        function = t.function;
-        widths = t.widths;
-        lines = map view_line t.lines;
-        valid = view_expr t.valid;
-        returns_new = t.returns_new;
-        result = option_map view_expr t.result;
-        result_width = t.result_width
+      line = t.line;
+      name = t.name;
+      function = t.function;
+      widths = t.widths;
+      lines = map view_line t.lines;
+      valid = view_expr t.valid;
+      returns_new = t.returns_new;
+      result = option_map view_expr t.result;
+      result_width = t.result_width;
     }
 
 abbrev pub view_spec : Spec → plain.Spec
 view_spec s =
     record {
-        fields = map view_field s.fields;
-        equation_locals = view_locals s.equation_locals;
-        invariants = map view_named s.invariants;
-        properties = map view_named s.properties;
-        transitions = map view_transition s.transitions;
-        objects = s.objects
+      fields = map view_field s.fields;
+      equation_locals = view_locals s.equation_locals;
+      invariants = map view_named s.invariants;
+      properties = map view_named s.properties;
+      transitions = map view_transition s.transitions;
+      objects = s.objects;
     }

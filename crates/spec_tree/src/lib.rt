@@ -16,3 +16,6 @@ pub use spec::{
     Body, Field, FieldList, Line, LineList, Named, NamedList, Spec, Transition, TransitionList,
     Write,
 };
+
+#[cfg(test)]
+mod tests;

@@ -6,4 +6,7 @@
 
 pub mod operators;
 
-pub use operators::{binary, resize, unary};
+pub use operators::{binary, is_true, resize, truth, unary};
+
+#[cfg(test)]
+mod tests;
