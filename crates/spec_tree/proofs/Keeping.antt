@@ -4,7 +4,7 @@ use Rattle.std.specs.Prelude.{slice_get, slice_index, slice_index_or, slice_set,
 use Rattle.std.proofs.lemmas.List.{length-map, length-set}
 use Rattle.std.proofs.lemmas.List.Elements.{All-head, All-tail, All-map, All-set}
 use Rattle.spec_tree.specs.Plain.{Key, Tree, Trees, Field, Line, let_line, write_line, Transition, Spec}
-use Rattle.spec_tree.specs.Sorted.{Context, FieldSort, no_field, product, key_sizes, width_of, with_bounds, with_local, with_locals, IsSorted, AreLocals, AreLines, lets_of, sort_of, field_sorts, over_kernel, over_step, over_keys, behind_lines, IsField, IsResult, IsTransition, IsWellSorted, IsWidth, HasWidths, over_state}
+use Rattle.spec_tree.specs.Sorted.{Context, FieldSort, no_field, product, key_sizes, width_of, with_bounds, with_local, with_locals, IsSorted, AreLocals, AreLines, lets_of, sort_of, field_sorts, over_kernel, over_step, over_keys, behind_lines, IsField, IsResult, IsTransition, IsWellSorted, IsWidth, IsFieldSort, HasLimits, over_state}
 use Rattle.spec_tree.specs.Value.{Env, value, values, place_behind, holds, tuples, binding}
 use Rattle.spec_tree.specs.Shapes.{AreNumbers, AreBelow, AreEntries, IsState, IsMemory, Fits}
 use Rattle.spec_tree.specs.Meaning.{State, Memory, with_value, with_values, in_memory, in_step, entry_value, field_entries, abstraction, entry_set, after_lines, transition}
@@ -131,14 +131,14 @@ transition_result s t i state args h a r e =
 
 -- ---- widths
 
-fields_have : (s : Spec) → IsWellSorted s → All (λ f. IsWidth f.width) (field_sorts s)
-fields_have s i = All-map (λ f. IsWidth f.width) sort_of s.fields (λ k d l. (i.fields k d l).wide)
+fields_have : (s : Spec) → IsWellSorted s → All IsFieldSort (field_sorts s)
+fields_have s i = All-map IsFieldSort sort_of s.fields (λ k d l. (i.fields k d l).sort)
 
-pub kernel_has : (s : Spec) → IsWellSorted s → HasWidths (over_kernel s)
+pub kernel_has : (s : Spec) → IsWellSorted s → HasLimits (over_kernel s)
 kernel_has s i = record { fields = fields_have s i; args = λ k d l. absurd (omega (arith, l)); locals = λ k d l. absurd (omega (arith, l)) }
 
-pub state_has : (s : Spec) → IsWellSorted s → HasWidths (over_state s)
+pub state_has : (s : Spec) → IsWellSorted s → HasLimits (over_state s)
 state_has s i = record { fields = fields_have s i; args = λ k d l. absurd (omega (arith, l)); locals = λ k d l. absurd (omega (arith, l)) }
 
-pub step_has : (s : Spec) → IsWellSorted s → (widths : List ℕ) → All IsWidth widths → HasWidths (over_step s widths)
+pub step_has : (s : Spec) → IsWellSorted s → (widths : List ℕ) → All IsWidth widths → HasLimits (over_step s widths)
 step_has s i widths a = record { fields = fields_have s i; args = a; locals = λ k d l. absurd (omega (arith, l)) }

@@ -19,7 +19,7 @@ use Rattle.spec_tree.specs.declared.expr.ResizeKind.TheVariants.{ZeroExt, SignEx
 use Rattle.spec_tree.specs.declared.expr.StateName.{StateName}
 use Rattle.spec_tree.specs.declared.expr.StateName.TheVariants.{Old, New}
 use Rattle.spec_tree.specs.Plain.{Tree, constant, argument, bound, local, entry, path, unary, binary, all_of, any_of, choose, resize, for_all, exists}
-use Rattle.spec_tree.specs.Sorted.{Context, FieldSort, Class, arithmetic, equality, ordering, logic, IsWidth, HasWidths, with_local, with_locals, AreLocals, FitsResize, no_field, width_of, class_of, class_width, resized_width, reads, FitsUn, IsSorted}
+use Rattle.spec_tree.specs.Sorted.{Context, FieldSort, Class, arithmetic, equality, ordering, logic, IsWidth, HasLimits, with_local, with_locals, AreLocals, FitsResize, no_field, width_of, class_of, class_width, resized_width, reads, FitsUn, IsSorted}
 use Rattle.spec_tree.specs.Value.{Env, value, state_of, bit, holds, entry_at, load, loaded, un_value, bin_value, resize_value}
 use Rattle.spec_tree.specs.Shapes.{AreNumbers, AreBelow, AreEntries, IsState, IsMemory, Fits}
 
@@ -162,12 +162,12 @@ bytes_fit k bytes l e =
     let most : 2 ^ k ≤ 2 ^ 3 = pow_mono {i = k} {j = 3} (omega (arith, l)) in
     (omega (arith, e, least), omega (arith, e, most))
 
-pub width_fits : (c : Context) → HasWidths c → (e : Tree) → IsSorted c e → IsWidth (width_of c e)
+pub width_fits : (c : Context) → HasLimits c → (e : Tree) → IsSorted c e → IsWidth (width_of c e)
 width_fits c h (constant w n) s = s.0
 width_fits c h (argument k) s = h.args k 0 s
 width_fits c h (bound k w) s = s.0
 width_fits c h (local k) s = h.locals k 0 s
-width_fits c h (entry name k at) s = h.fields k no_field (slice_get_within c.fields k s.1 s.2)
+width_fits c h (entry name k at) s = (h.fields k no_field (slice_get_within c.fields k s.1 s.2)).wide
 width_fits c h (path o base steps bytes) s = bytes_fit s.3.whole.0 bytes s.3.whole.1 s.3.whole.2
 width_fits c h (unary kind a) s = width_fits c h a s.0
 width_fits c h (binary kind a b) s = class_fits (class_of kind) (width_of c a) (width_fits c h a s.0)
@@ -178,9 +178,9 @@ width_fits c h (resize kind a) s = resize_fits kind (width_of c a) s.1 (width_fi
 width_fits c h (for_all sizes a) s = (omega arith, omega arith)
 width_fits c h (exists sizes a) s = (omega arith, omega arith)
 
-local_has : (c : Context) → HasWidths c → (e : Tree) → IsSorted c e → HasWidths (with_local c e)
+local_has : (c : Context) → HasLimits c → (e : Tree) → IsSorted c e → HasLimits (with_local c e)
 local_has c h e s = record { fields = h.fields; args = h.args; locals = All-push IsWidth c.locals (width_of c e) h.locals (width_fits c h e s) }
 
-pub locals_have : (c : Context) → HasWidths c → (es : List Tree) → AreLocals c es → HasWidths (with_locals c es)
+pub locals_have : (c : Context) → HasLimits c → (es : List Tree) → AreLocals c es → HasLimits (with_locals c es)
 locals_have c h [] s = h
 locals_have c h (e ∷ es) s = locals_have (with_local c e) (local_has c h e s.0) es s.1

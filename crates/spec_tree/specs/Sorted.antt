@@ -176,9 +176,19 @@ abbrev mutual
 
 -- ---- specifications
 
--- what may be named has 1 to 64 bits
-pub record HasWidths (c : Context) : Type 0 where
-  pub fields : All (λ f. IsWidth f.width) c.fields
+abbrev pub key_sizes : List Key → List ℕ
+key_sizes keys = map (λ k. k.size) keys
+
+-- at most four keys, all index sorts, with few enough tuples; entries of 1 to 64 bits
+pub record IsFieldSort (f : FieldSort) : Type 0 where
+  pub keyed : All (λ k. IsIndexSort k.width k.size) f.keys
+  pub few : length f.keys ≤ 4
+  pub small : IsNest (key_sizes f.keys)
+  pub wide : IsWidth f.width
+
+-- what may be named is within the limits
+pub record HasLimits (c : Context) : Type 0 where
+  pub fields : All IsFieldSort c.fields
   pub args : All IsWidth c.args
   pub locals : All IsWidth c.locals
 
@@ -186,9 +196,6 @@ pub record HasWidths (c : Context) : Type 0 where
 abbrev pub AreLocals : Context → List Tree → Type 0
 AreLocals c [] = Unit {0}
 AreLocals c (e ∷ es) = IsSorted c e × AreLocals (with_local c e) es
-
-abbrev pub key_sizes : List Key → List ℕ
-key_sizes keys = map (λ k. k.size) keys
 
 abbrev pub sort_of : Field → FieldSort
 sort_of f = record { keys = f.keys; width = f.width }
@@ -211,10 +218,7 @@ abbrev pub over_keys : Spec → Field → Context
 over_keys s f = with_bounds (with_locals (over_kernel s) s.equation_locals) (key_sizes f.keys)
 
 pub record IsField (s : Spec) (f : Field) : Type 0 where
-  pub keyed : All (λ k. IsIndexSort k.width k.size) f.keys
-  pub few : length f.keys ≤ 4
-  pub small : IsNest (key_sizes f.keys)
-  pub wide : IsWidth f.width
+  pub sort : IsFieldSort (sort_of f)
   pub sorted : IsSorted (over_keys s f) f.value
   pub given : width_of (over_keys s f) f.value ≡ f.width
 

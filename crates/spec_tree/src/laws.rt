@@ -3,7 +3,7 @@
 ghost use Rattle.std.specs.Prelude.{◌≡◌, ◌<◌, ◌≤◌, ◌*◌, ◌+◌, ◌^◌, ◌∷◌, ℕ, List, Some, None, All, length, slice_get, slice_index, slice_index_or};
 ghost use Rattle.spec_tree.specs.Plain as plain;
 ghost use Rattle.spec_tree.specs.Plain.{Key, Tree, Trees, entry, write_line};
-ghost use Rattle.spec_tree.specs.Sorted.{Context, FieldSort, IsWidth, HasWidths, IsSorted, IsTransition, IsWellSorted, AreLocals, over_kernel, over_state, over_step, no_field, product, key_sizes, width_of, with_bounds, with_locals, field_sorts};
+ghost use Rattle.spec_tree.specs.Sorted.{Context, FieldSort, IsWidth, HasLimits, IsSorted, IsTransition, IsWellSorted, AreLocals, over_kernel, over_state, over_step, no_field, product, key_sizes, width_of, with_bounds, with_locals, field_sorts};
 ghost use Rattle.spec_tree.specs.Value.{Env, value, values, place_behind, tuples, tuple_at, binding};
 ghost use Rattle.spec_tree.specs.Shapes.{Fits, AreNumbers, AreBelow, IsState, IsMemory};
 ghost use Rattle.spec_tree.specs.Meaning.{State, Memory, with_values, abstraction, after_lines, transition};
@@ -19,11 +19,11 @@ pub fn values_have_their_widths()
 
 /// The width of a well-sorted expression is from 1 to 64, wherever a specification stands.
 pub fn widths_are_from_1_to_64()
-    ensures width { (c : Context) → HasWidths c → (e : Tree) → IsSorted c e → IsWidth (width_of c e) }
-    ensures locals { (c : Context) → HasWidths c → (es : List Tree) → AreLocals c es → HasWidths (with_locals c es) }
-    ensures kernel { (s : plain.Spec) → IsWellSorted s → HasWidths (over_kernel s) }
-    ensures state { (s : plain.Spec) → IsWellSorted s → HasWidths (over_state s) }
-    ensures step { (s : plain.Spec) → IsWellSorted s → (widths : List ℕ) → All IsWidth widths → HasWidths (over_step s widths) }
+    ensures width { (c : Context) → HasLimits c → (e : Tree) → IsSorted c e → IsWidth (width_of c e) }
+    ensures locals { (c : Context) → HasLimits c → (es : List Tree) → AreLocals c es → HasLimits (with_locals c es) }
+    ensures kernel { (s : plain.Spec) → IsWellSorted s → HasLimits (over_kernel s) }
+    ensures state { (s : plain.Spec) → IsWellSorted s → HasLimits (over_state s) }
+    ensures step { (s : plain.Spec) → IsWellSorted s → (widths : List ℕ) → All IsWidth widths → HasLimits (over_step s widths) }
 {}
 
 /// There are as many index tuples as the product of the sizes, each index is below its size, and the k-th is known by
