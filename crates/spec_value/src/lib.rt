@@ -5,8 +5,12 @@
 #![tactic(auto)]
 
 pub mod operators;
+pub mod state;
+pub mod tuples;
 
 pub use operators::{binary, is_true, resize, truth, unary};
+pub use state::{AbstractState, EntryList};
+pub use tuples::{count, place, push_tuple};
 
 #[cfg(test)]
 mod tests;
