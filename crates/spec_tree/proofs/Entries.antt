@@ -2,8 +2,8 @@
 use Rattle.std.proofs.Common.{◌≡◌, ◌+◌, ◌*◌, ◌/◌, ◌%◌, ◌<◌, ◌≤◌, ℕ, zero, suc, Bool, true, false, Option, Some, None, List, [], ◌∷◌, ◌++◌, map, length, arith, ap, sym, ◌∙◌, subst, refl, inl, inr}
 use Rattle.std.specs.Prelude.{slice_get, slice_index, slice_index_or, All, if◌then◌else◌, nat_lt}
 use Rattle.std.specs.List.{flat_map}
-use Rattle.std.proofs.Math.Nat.{mul-le-mul_right, mul_assoc, mod-lt, div-add-mod, div-lt_iff_lt-mul}
-use Rattle.std.proofs.lemmas.Bool.{ltb-true, le-ltb, cases_lt}
+use Rattle.std.proofs.Math.Nat.{mul-le-mul_right, mul_assoc, add-mul, mod-lt, div-add-mod, div-lt_iff_lt-mul}
+use Rattle.std.proofs.lemmas.Bool.{ltb-true, lt-ltb, le-ltb, cases_lt}
 use Rattle.std.proofs.lemmas.List.{length-map, length-append, get_or_append_left, get_or-append-add, get_or-map}
 use Rattle.std.proofs.lemmas.Grind.{flat_map-append}
 use Rattle.std.proofs.lemmas.List.Elements.{All-append, All-push, All-map}
@@ -115,3 +115,16 @@ tuple_is (n ∷ ns) k d h =
     ∙ row_at f p n (k / p) (k % p) d (λ i. length-map (tuples ns) (λ t. i ∷ t) ∙ how_many ns) low short
     ∙ get_or-map (λ t. k / p ∷ t) (tuples ns) (k % p) d d (omega (arith, short, how_many ns))
     ∙ ap (λ t. k / p ∷ t) (tuple_is ns (k % p) d short)
+
+pub place_is : (keys : List Key) (at k : ℕ) → k < product (key_sizes keys) → place_behind at keys (tuple_at (key_sizes keys) k) ≡ Some (at * product (key_sizes keys) + k)
+place_is [] at k h = let e : at ≡ at * 1 + k = omega (arith, h) in ap Some e
+place_is (a ∷ keys) at k h =
+    let p = product (key_sizes keys) in
+    let some : 0 < p = positive a.size p k h in
+    let low : k / p < a.size = (div-lt_iff_lt-mul some).1 h in
+    let split : k / p * p + k % p ≡ k = omega (arith, div-add-mod k p) in
+    let whole : (at * a.size + k / p) * p + k % p ≡ at * (a.size * p) + k = omega (arith, add-mul (at * a.size) (k / p) p, mul_assoc at a.size p, split) in
+    rw (lt-ltb (k / p) a.size low) (place_is keys (at * a.size + k / p) (k % p) (mod-lt k some) ∙ ap Some whole)
+
+pub place_of_tuple : (keys : List Key) (k : ℕ) → k < product (key_sizes keys) → place_behind 0 keys (tuple_at (key_sizes keys) k) ≡ Some k
+place_of_tuple keys k h = let e : 0 * product (key_sizes keys) + k ≡ k = omega arith in place_is keys 0 k h ∙ ap Some e

@@ -1,15 +1,15 @@
 -- What is read keeps fitting what may be named, behind local names, variables and writes; so states keep their shapes.
 use Rattle.std.proofs.Common.{◌≡◌, ◌+◌, ◌*◌, ◌^◌, ◌<◌, ◌≤◌, ℕ, zero, suc, Bool, true, false, Option, Some, None, List, [], ◌∷◌, ◌++◌, map, length, arith, ap, sym, ◌∙◌, subst, refl}
 use Rattle.std.specs.Prelude.{slice_get, slice_index, slice_index_or, slice_set, All, if◌then◌else◌, ◌&&◌, nat_lt, option_map}
-use Rattle.std.proofs.lemmas.List.{length-map, length-set}
+use Rattle.std.proofs.lemmas.List.{length-map, length-set, get_or-map}
 use Rattle.std.proofs.lemmas.List.Elements.{All-head, All-tail, All-map, All-set}
 use Rattle.spec_tree.specs.Plain.{Key, Tree, Trees, Field, Line, let_line, write_line, Transition, Spec}
 use Rattle.spec_tree.specs.Sorted.{Context, FieldSort, no_field, product, key_sizes, width_of, with_bounds, with_local, with_locals, IsSorted, AreLocals, AreLines, lets_of, sort_of, field_sorts, over_kernel, over_step, over_keys, behind_lines, IsField, IsResult, IsTransition, IsWellSorted, IsWidth, IsFieldSort, HasLimits, over_state}
-use Rattle.spec_tree.specs.Value.{Env, value, values, place_behind, holds, tuples, binding}
+use Rattle.spec_tree.specs.Value.{Env, value, values, place_behind, holds, tuples, tuple_at, binding}
 use Rattle.spec_tree.specs.Shapes.{AreNumbers, AreBelow, AreEntries, IsState, IsMemory, Fits}
 use Rattle.spec_tree.specs.Meaning.{State, Memory, with_value, with_values, in_memory, in_step, entry_value, field_entries, abstraction, entry_set, after_lines, transition}
 use Rattle.spec_tree.proofs.Widths.{value_below}
-use Rattle.spec_tree.proofs.Entries.{no_place, how_many, all_below}
+use Rattle.spec_tree.proofs.Entries.{no_place, how_many, all_below, tuple_is}
 
 -- ---- variables and local names
 
@@ -142,3 +142,17 @@ state_has s i = record { fields = fields_have s i; args = λ k d l. absurd (omeg
 
 pub step_has : (s : Spec) → IsWellSorted s → (widths : List ℕ) → All IsWidth widths → HasLimits (over_step s widths)
 step_has s i widths a = record { fields = fields_have s i; args = a; locals = λ k d l. absurd (omega (arith, l)) }
+
+-- ---- entries of the abstraction
+
+found_at : (g : Field → List ℕ) (fs : List Field) (f : ℕ) (field : Field) → slice_get fs f ≡ Some field → slice_index_or (map g fs) f [] ≡ g field
+found_at g [] f field h = cc
+found_at g (x ∷ fs) zero field h = let e : x ≡ field = cc in ap g e
+found_at g (x ∷ fs) (suc f) field h = found_at g fs f field h
+
+pub entry_told : (s : Spec) (memory : Memory) (f : ℕ) (field : Field) (k : ℕ) → slice_get s.fields f ≡ Some field → k < product (key_sizes field.keys) → slice_index (slice_index_or (abstraction s memory) f []) k ≡ entry_value s memory field (tuple_at (key_sizes field.keys) k)
+entry_told s memory f field k h low =
+    let sizes = key_sizes field.keys in
+    ap (λ l. slice_index l k) (found_at (field_entries s memory) s.fields f field h)
+    ∙ get_or-map (entry_value s memory field) (tuples sizes) k [] 0 (omega (arith, low, how_many sizes))
+    ∙ ap (entry_value s memory field) (tuple_is sizes k [] low)

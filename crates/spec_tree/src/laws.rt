@@ -1,12 +1,12 @@
 //! Laws of specifications and of their meaning. A function here does nothing: its contract is the law.
 
-ghost use Rattle.std.specs.Prelude.{◌≡◌, ◌<◌, ◌≤◌, ◌*◌, ◌+◌, ◌^◌, ◌∷◌, ℕ, List, Some, None, All, length, slice_get, slice_index, slice_index_or};
+ghost use Rattle.std.specs.Prelude.{◌≡◌, ◌<◌, ◌≤◌, ◌*◌, ◌+◌, ◌^◌, ◌∷◌, [], ℕ, List, Some, None, All, length, slice_get, slice_index, slice_index_or};
 ghost use Rattle.spec_tree.specs.Plain as plain;
 ghost use Rattle.spec_tree.specs.Plain.{Key, Tree, Trees, entry, write_line};
 ghost use Rattle.spec_tree.specs.Sorted.{Context, FieldSort, IsWidth, HasLimits, IsSorted, IsTransition, IsWellSorted, AreLocals, over_kernel, over_state, over_step, no_field, product, key_sizes, width_of, with_bounds, with_locals, field_sorts};
 ghost use Rattle.spec_tree.specs.Value.{Env, value, values, place_behind, tuples, tuple_at, binding};
 ghost use Rattle.spec_tree.specs.Shapes.{Fits, AreNumbers, AreBelow, IsState, IsMemory};
-ghost use Rattle.spec_tree.specs.Meaning.{State, Memory, with_values, abstraction, after_lines, transition};
+ghost use Rattle.spec_tree.specs.Meaning.{State, Memory, with_values, abstraction, entry_value, after_lines, transition};
 ghost use Rattle.spec_tree.specs.declared.expr.StateName.{StateName};
 
 /// The number of a well-sorted expression has the expression's width; and what is read keeps fitting behind the values of variables
@@ -32,6 +32,7 @@ pub fn tuples_are_those_below_the_sizes()
     ensures number { (sizes : List ℕ) → length (tuples sizes) ≡ product sizes }
     ensures below { (sizes : List ℕ) → All (AreBelow sizes) (tuples sizes) }
     ensures place { (sizes : List ℕ) (k : ℕ) (default : List ℕ) → k < product sizes → slice_index_or (tuples sizes) k default ≡ tuple_at sizes k }
+    ensures found { (keys : List Key) (k : ℕ) → k < product (key_sizes keys) → place_behind 0 keys (tuple_at (key_sizes keys) k) ≡ Some k }
 {}
 
 /// An index at or past its size reads 0 and writes nothing; where no index is, the place is one of the field's entries.
@@ -46,10 +47,13 @@ pub fn indices_past_their_sizes_do_nothing()
         place_behind before keys indices ≡ Some place → place < (before + 1) * product (key_sizes keys) }
 {}
 
-/// The abstraction of a memory is a state of the specification: one list a field, with one number of the field's width for each tuple.
+/// The abstraction of a memory is a state of the specification: one list a field, with one number of the field's width for each tuple,
+/// the value of the right side of the field's equation there.
 pub fn abstractions_are_states()
     ensures state { (s : plain.Spec) → IsWellSorted s → (memory : Memory) → IsMemory s.objects memory → IsState (field_sorts s) (abstraction s memory) }
     ensures fields { (s : plain.Spec) (memory : Memory) → length (abstraction s memory) ≡ length s.fields }
+    ensures entry { (s : plain.Spec) (memory : Memory) (f : ℕ) (field : plain.Field) (k : ℕ) → slice_get s.fields f ≡ Some field → k < product (key_sizes field.keys) →
+        slice_index (slice_index_or (abstraction s memory) f []) k ≡ entry_value s memory field (tuple_at (key_sizes field.keys) k) }
 {}
 
 /// A transition leads from states to states, and its result has the handler's width.

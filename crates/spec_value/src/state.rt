@@ -1,6 +1,6 @@
 //! Abstract states: for each field its entries, in the order of the index tuples.
 
-ghost use Rattle.std.specs.Prelude.{◌≡◌, ◌<◌, [], length, slice_index, slice_index_or, slice_set};
+ghost use Rattle.std.specs.Prelude.{◌≡◌, [], slice_index, slice_index_or, slice_set};
 ghost use Rattle.spec_tree.specs.Value.{entry_at};
 ghost use Rattle.spec_tree.specs.Meaning.{entry_set};
 
@@ -74,25 +74,35 @@ impl AbstractState {
         self.fields.as_slice()
     }
 
+    // The entries of a field; none where there is no such field.
+    fn entries(&self, field: u32) -> &[u64]
+        ensures { result.now ≡ slice_index_or self.now field [] }
+    {
+        if (field as usize) < self.fields.len() {
+            self.fields[field as usize].as_slice()
+        } else {
+            &[]
+        }
+    }
+
     /// The entry of a field at a place; 0 where there is none.
     pub fn entry(&self, field: u32, place: Option<u64>) -> u64
-        requires { field < length self.now }
         ensures { result ≡ entry_at (slice_index_or self.now field []) place }
     {
-        let entries = self.fields[field as usize].as_slice();
         match place {
-            Some(place) => number_at(entries, place),
+            Some(place) => number_at(self.entries(field), place),
             None => 0,
         }
     }
 
     /// Sets the entry of a field at a place, and changes nothing where there is none.
     pub fn set(&mut self, field: u32, place: Option<u64>, number: u64)
-        requires { field < length self.old }
         ensures { self.new ≡ entry_set self.old field place number }
     {
         if let Some(place) = place {
-            self.fields[field as usize].set(place, number);
+            if (field as usize) < self.fields.len() {
+                self.fields[field as usize].set(place, number);
+            }
         }
     }
 }

@@ -3,6 +3,7 @@
 use super::*;
 use spec_ast::{BinKind, UnKind};
 use spec_tree::ResizeKind;
+use std::alloc::{AllocError, Global};
 
 #[test]
 fn numbers_are_shifted_divided_and_ordered(rt: HostRuntime) {
@@ -48,4 +49,36 @@ fn numbers_are_negated_and_resized(rt: HostRuntime) {
     assert_eq!(rt; resize(ResizeKind::SignExt(8), 8, 200), 65480);
     assert_eq!(rt; resize(ResizeKind::Extract(11, 4), 16, 43981), 188);
     assert!(rt; is_true(truth(true)));
+}
+
+#[test]
+fn tuples_are_counted_and_found(rt: HostRuntime) -> Result<(), AllocError> {
+    let alloc = rt.alloc();
+    let sizes = [2, 3, 5];
+    assert_eq!(rt; count(&sizes), 30);
+    let mut tuple = Vec::new(alloc);
+    push_tuple(&sizes, 30, 23, &mut tuple)?;
+    assert!(rt; tuple.as_slice() == [1, 1, 3].as_slice());
+    assert_eq!(rt; place(&[], &[]), Some(0));
+    Ok(())
+}
+
+fn state(alloc: Global) -> Result<AbstractState, AllocError> {
+    let mut fields = Vec::new(alloc);
+    fields.push(EntryList::of(vec![in alloc; 7]?))?;
+    fields.push(EntryList::of(vec![in alloc; 4, 5, 6]?))?;
+    Ok(AbstractState::of(fields))
+}
+
+#[test]
+fn entries_are_read_and_set(rt: HostRuntime) -> Result<(), AllocError> {
+    let mut state = state(rt.alloc())?;
+    state.set(1, Some(2), 9);
+    state.set(1, None, 8);
+    state.set(0, Some(1), 8);
+    assert_eq!(rt; state.as_slice().len(), 2);
+    assert_eq!(rt; state.entry(0, Some(0)), 7);
+    assert_eq!(rt; state.entry(1, Some(2)), 9);
+    assert_eq!(rt; state.entry(1, None), 0);
+    Ok(())
 }

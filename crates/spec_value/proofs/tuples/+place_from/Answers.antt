@@ -11,11 +11,10 @@ deeper-requires t c =
 pub place_from-requires : goal.place_from-requires
 place_from-requires t c =
     let long : 1 ≤ length c.args.keys.now = search rules in
-    let low : slice_index_or c.args.indices.now 0 0 < c.size_at-size.result = search rules in
-    (
-        omega (arith, c.decreases, rest_shorter c.args.keys.now long),
-        (
-            rest_sizes c.args.keys.now long c.requires.some,
-            rest_few c.args.keys.now _ c.size_at-size.result c.args.before (slice_index_or c.args.indices.now 0 0) c.deeper.result long c.size_at-size.ensures c.requires.few low c.deeper.ensures
-        )
+    let low : slice_index_or c.args.indices.now 0 0 < c.size_at-size.result = search rules in (
+      omega (arith, c.decreases, rest_shorter c.args.keys.now long),
+      (
+        rest_sizes c.args.keys.now long c.requires.some,
+        rest_few c.args.keys.now _ c.size_at-size.result c.args.before (slice_index_or c.args.indices.now 0 0) c.deeper.result long c.size_at-size.ensures c.requires.few low c.deeper.ensures,
+      ),
     )

@@ -14,7 +14,7 @@ each-preserved c =
     let low : k < length ns = search rules in
     let items : c.push.new.self.items ≡ c.each.tuple.items ++ c.each.rest / (c.each.stride / n) ∷ [] = search rules in
     record {
-        stride = stride_next ns k n 0 c.each.stride c.each.rest low is i.stride i.within;
-        within = rest_next ns k n 0 c.each.stride c.each.rest low is i.stride i.within;
-        left = ap (λ t. t ++ tuple_at (drop (k + 1) ns) (c.each.rest % (c.each.stride / n))) items ∙ left_next ns c.each.tuple.items k n 0 c.each.stride c.each.rest low is i.stride i.within ∙ i.left
+      stride = stride_next ns k n 0 c.each.stride c.each.rest low is i.stride i.within;
+      within = rest_next ns k n 0 c.each.stride c.each.rest low is i.stride i.within;
+      left = ap (λ t. t ++ tuple_at (drop (k + 1) ns) (c.each.rest % (c.each.stride / n))) items ∙ left_next ns c.each.tuple.items k n 0 c.each.stride c.each.rest low is i.stride i.within ∙ i.left;
     }
