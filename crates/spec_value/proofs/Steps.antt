@@ -1,5 +1,5 @@
 -- One size of a list of sizes, and what is left behind it.
-use Rattle.std.proofs.Common.{◌≡◌, ◌+◌, ◌-◌, ◌*◌, ◌/◌, ◌%◌, ◌^◌, ◌<◌, ◌≤◌, ℕ, zero, suc, List, [], ◌∷◌, ◌++◌, drop, take, length, arith, ap, sym, ◌∙◌, subst, refl}
+use Rattle.std.proofs.Common.{◌≡◌, ◌+◌, ◌-◌, ◌*◌, ◌/◌, ◌%◌, ◌^◌, ◌<◌, ◌≤◌, ℕ, zero, suc, List, [], ◌∷◌, ◌++◌, drop, take, length, arith, ap, sym, ◌∙◌, subst}
 use Rattle.std.specs.Prelude.{All, get_or, map, slice_index_or}
 use Rattle.std.proofs.Math.Nat.{mul-le-mul_right, mul_assoc, mod-lt, mul-div_cancel_left}
 use Rattle.std.proofs.Math.Seq.{drop-cons, take-length}

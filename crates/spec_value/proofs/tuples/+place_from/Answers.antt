@@ -1,4 +1,4 @@
-use Rattle.std.proofs.Common.{rules, arith, ◌≡◌, ◌≤◌, ◌<◌, length, slice_index_or}
+use Rattle.std.proofs.Common.{rules, arith, ◌≤◌, ◌<◌, length, slice_index_or}
 use Rattle.spec_value.proofs.Steps.{first_fits, rest_shorter, rest_sizes, rest_few}
 use Rattle.spec_value.proofs.tuples.+place_from.Goals as goal
 

@@ -1,6 +1,5 @@
-use Rattle.std.proofs.Common.{rules, arith, ap, ◌∙◌, drop, ◌≡◌, ◌+◌, ◌*◌, ◌<◌, ◌≤◌, ◌^◌, ◌++◌, ◌-◌, length, ◌/◌, ◌%◌, List, [], ◌∷◌, slice_index_or, Fits, w64}
+use Rattle.std.proofs.Common.{rules, arith, ◌≡◌, ◌<◌, length, slice_index_or}
 use Rattle.spec_tree.specs.Sorted.{product}
-use Rattle.spec_tree.specs.Value.{tuple_at}
 use Rattle.spec_value.proofs.Steps.{counts_below}
 use Rattle.spec_value.proofs.tuples.count.Goals as goal
 

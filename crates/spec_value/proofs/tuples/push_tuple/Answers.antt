@@ -1,5 +1,4 @@
-use Rattle.std.proofs.Common.{rules, arith, ap, ◌∙◌, drop, ◌≡◌, ◌+◌, ◌*◌, ◌<◌, ◌≤◌, ◌^◌, ◌++◌, ◌-◌, length, ◌/◌, ◌%◌, List, [], ◌∷◌, slice_index_or, Fits, w64}
-use Rattle.spec_tree.specs.Sorted.{product}
+use Rattle.std.proofs.Common.{rules, ap, ◌∙◌, drop, ◌≡◌, ◌+◌, ◌<◌, ◌++◌, length, ◌/◌, ◌%◌, [], ◌∷◌, slice_index_or}
 use Rattle.spec_tree.specs.Value.{tuple_at}
 use Rattle.spec_value.proofs.Steps.{stride_next, rest_next, left_next}
 use Rattle.spec_value.proofs.tuples.push_tuple.Goals as goal
