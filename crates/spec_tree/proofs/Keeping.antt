@@ -1,6 +1,6 @@
 -- What is read keeps fitting what may be named, behind local names, variables and writes; so states keep their shapes.
-use Rattle.std.proofs.Common.{◌≡◌, ◌+◌, ◌*◌, ◌^◌, ◌<◌, ◌≤◌, ℕ, zero, suc, Bool, true, false, Option, Some, None, List, [], ◌∷◌, ◌++◌, map, length, arith, ap, sym, ◌∙◌, subst, refl}
-use Rattle.std.specs.Prelude.{slice_get, slice_index, slice_index_or, slice_set, All, if◌then◌else◌, ◌&&◌, nat_lt, option_map}
+use Rattle.std.proofs.Common.{◌≡◌, ◌^◌, ◌<◌, ◌≤◌, ℕ, zero, suc, Bool, true, false, Option, Some, None, List, [], ◌∷◌, ◌++◌, map, arith, ap, sym, ◌∙◌, subst, refl}
+use Rattle.std.specs.Prelude.{slice_get, slice_index, slice_index_or, slice_set, All, if◌then◌else◌, ◌&&◌, option_map}
 use Rattle.std.proofs.lemmas.List.{length-map, length-set, get_or-map}
 use Rattle.std.proofs.lemmas.List.Elements.{All-head, All-tail, All-map, All-set}
 use Rattle.spec_tree.specs.Plain.{Key, Tree, Trees, Field, Line, let_line, write_line, Transition, Spec}

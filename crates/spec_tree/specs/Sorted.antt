@@ -1,9 +1,9 @@
 -- Well-sorted specifications: what every specification that the reader hands out is.
 use Rattle.std.specs.Prelude.{◌≡◌, ℕ, ◌+◌, ◌-◌, ◌*◌, ◌^◌, ◌<◌, ◌≤◌, Bool, true, false, Option, Some, None, List, [], ◌∷◌, ◌++◌, map, length, slice_get, slice_index, slice_index_or, All, sum_by}
 use Rattle.spec_ast.specs.declared.kind.UnKind.{UnKind}
-use Rattle.spec_ast.specs.declared.kind.UnKind.TheVariants.{Minus, Complement, Not}
+use Rattle.spec_ast.specs.declared.kind.UnKind.TheVariants.{Not}
 use Rattle.spec_ast.specs.declared.kind.BinKind.{BinKind}
-use Rattle.spec_ast.specs.declared.kind.BinKind.TheVariants.{Mul, Add, Sub, Shl, Ashr, Lshr, BitAnd, BitXor, BitOr, Udiv, Urem, Eq, Ne, Slt, Sle, Sgt, Sge, Ult, Ule, Ugt, Uge, Implies}
+use Rattle.spec_ast.specs.declared.kind.BinKind.TheVariants.{Eq, Ne, Slt, Sle, Sgt, Sge, Ult, Ule, Ugt, Uge, Implies}
 use Rattle.spec_tree.specs.declared.expr.ResizeKind.{ResizeKind}
 use Rattle.spec_tree.specs.declared.expr.ResizeKind.TheVariants.{ZeroExt, SignExt, Extract}
 use Rattle.spec_tree.specs.declared.expr.StateName.{StateName}
