@@ -1,0 +1,4 @@
+mod Widths
+mod Entries
+mod Keeping
+mod Rows
