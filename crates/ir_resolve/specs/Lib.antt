@@ -1,3 +1,5 @@
 pub mod Operands
 pub mod Acts
 pub mod Resolved
+pub mod Measures
+pub mod Shaped

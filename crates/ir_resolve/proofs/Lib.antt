@@ -1,0 +1,4 @@
+pub mod Bounds
+pub mod Shaping
+pub mod Offsets
+pub mod Moves
