@@ -2,3 +2,7 @@ pub mod Bounds
 pub mod Shaping
 pub mod Offsets
 pub mod Moves
+pub mod Flags
+pub mod Written
+pub mod Bodies
+pub mod Codes

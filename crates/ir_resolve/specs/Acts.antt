@@ -1,11 +1,14 @@
 -- Instructions with places for names, and widths, sizes and alignments for types.
 use Rattle.std.specs.Prelude.{ℕ, zero, suc, ℤ, Bool, true, false, if◌then◌else◌, min, Option, Some, None, option_map, option_and_then, unwrap_or, is_some, List, [], ◌∷◌, map, position, bytes_eq, length, codes, nat_eq, slice_index_or}
 use Rattle.std.specs.List.{starts_with}
-use Rattle.ir_ast.specs.Plain.{Ty, Val, local}
+use Rattle.ir_ast.specs.Plain.{Ty, Val, Form, local}
 use Rattle.ir_ast.specs.Program as plain
 use Rattle.ir_ast.specs.Program.{FunctionView, ModuleView}
 use Rattle.ir_ast.specs.Table.{place_of}
 use Rattle.ir_ast.specs.declared.instr.Predicate.{Predicate}
+use Rattle.ir_ast.specs.declared.instr.BinaryKind.{BinaryKind}
+use Rattle.ir_ast.specs.declared.instr.ConvertKind.{ConvertKind}
+use Rattle.ir_ast.specs.declared.operand.Flags.{Flags}
 use Rattle.ir_type.specs.Names.{entry_of}
 use Rattle.ir_type.specs.Whole.{meant, is_pointer}
 use Rattle.ir_layout.specs.Sizes.{size_of, written_or}
@@ -39,11 +42,14 @@ block_place f x = unwrap_or (position (bytes_eq x) (block_names f)) (length (blo
 
 -- ---- comparisons
 
+abbrev pub compared : Predicate → Bool → Input → Input → Act
+compared p true a b = act.ComparePointers p a b
+compared p false a b = act.Unknown
+
 -- of numbers of a width, of pointers, or of neither
 abbrev pub compare_by : ModuleView → FunctionView → Predicate → Option ℕ → Bool → Val → Val → Act
 compare_by m f p (Some w) pointers a b = act.Compare p w (input_of m f (Some w) a) (input_of m f (Some w) b)
-compare_by m f p None true a b = act.ComparePointers p (input_of m f None a) (input_of m f None b)
-compare_by m f p None false a b = act.Unknown
+compare_by m f p None pointers a b = compared p pointers (input_of m f None a) (input_of m f None b)
 
 -- ---- registers that are named where no operand stands
 
@@ -102,6 +108,14 @@ load_by m f t target align spans None = act.Load (number_width t) (bytes_of t) (
 abbrev pub store_by : ModuleView → FunctionView → Ty → Val → Val → ℕ → Option ℕ → Act
 store_by m f t v target align (Some k) = act.StoreSlot (written_or align t) (input_of m f (width_of t) v) k
 store_by m f t v target align None = act.Store (bytes_of t) (written_or align t) (input_of m f (width_of t) v) (input_of m f None target)
+
+-- the same of a type as it is spelled
+abbrev pub load_of : ModuleView → FunctionView → Ty → Val → ℕ → Option (List ℕ) → Act
+load_of m f over target align range =
+    load_by m f (meant m.types over) target align (spans_of m (number_width (meant m.types over)) range) (slot_place f target)
+
+abbrev pub store_of : ModuleView → FunctionView → Ty → Val → Val → ℕ → Act
+store_of m f over v target align = store_by m f (meant m.types over) v target align (slot_place f target)
 
 -- ---- calls
 
@@ -163,29 +177,64 @@ call_by m f name arguments None false = act.Hook (inputs_of m f arguments)
 
 -- ---- all of them
 
+abbrev pub arm_of : ModuleView → FunctionView → Option ℕ → Val × List ℕ → Arm
+arm_of m f w arm = record { input = input_of m f w arm.0; from = block_place f arm.1 }
+
 abbrev pub arms_of : ModuleView → FunctionView → Option ℕ → List (Val × List ℕ) → List Arm
-arms_of m f w arms = map (λ a. record { input = input_of m f w a.0; from = block_place f a.1 }) arms
+arms_of m f w arms = map (arm_of m f w) arms
+
+abbrev pub case_of : FunctionView → ℕ → ℤ × List ℕ → Case
+case_of f w c = record { number = number_in w c.0; block = block_place f c.1 }
 
 abbrev pub cases_of : FunctionView → ℕ → List (ℤ × List ℕ) → List Case
-cases_of f w cases = map (λ c. record { number = number_in w c.0; block = block_place f c.1 }) cases
+cases_of f w cases = map (case_of f w) cases
+
+abbrev pub binary_of : ModuleView → FunctionView → BinaryKind → Flags → ℕ → Val → Val → Act
+binary_of m f kind flags w a b = act.Binary kind flags w (input_of m f (Some w) a) (input_of m f (Some w) b)
+
+abbrev pub select_of : ModuleView → FunctionView → Val → Ty → Val → Val → Act
+select_of m f c over a b = act.Select (input_of m f (Some 1) c) (typed m f over a) (typed m f over b)
+
+abbrev pub slot_act : ModuleView → Ty → ℕ → Act
+slot_act m over align = act.Slot (written_or align (meant m.types over))
+
+abbrev pub switch_of : ModuleView → FunctionView → ℕ → Val → List ℕ → List (ℤ × List ℕ) → Act
+switch_of m f w on default cases = act.Switch w (input_of m f (Some w) on) (cases_of f w cases) (block_place f default)
+
+abbrev pub return_of : ModuleView → FunctionView → Ty → Option Val → Act
+return_of m f over None = act.Return None
+return_of m f over (Some v) = act.Return (Some (typed m f over v))
+
+abbrev pub branch_of : ModuleView → FunctionView → Val → List ℕ → List ℕ → Act
+branch_of m f c taken other = act.Branch (input_of m f (Some 1) c) (block_place f taken) (block_place f other)
+
+abbrev pub phi_of : ModuleView → FunctionView → Ty → List (Val × List ℕ) → Act
+phi_of m f over arms = act.Phi (arms_of m f (width_in m over) arms)
+
+abbrev pub convert_of : ModuleView → FunctionView → ConvertKind → Flags → ℕ → ℕ → Val → Act
+convert_of m f kind flags from to a = act.Convert kind flags.nneg from to (input_of m f (Some from) a)
+
+abbrev pub freeze_of : ModuleView → FunctionView → Ty → Val → Act
+freeze_of m f over a = act.Freeze (typed m f over a)
+
+abbrev pub offset_of : ModuleView → FunctionView → Form → Act
+offset_of m f a = act.Address (form_input m f a)
 
 abbrev pub act_of : ModuleView → FunctionView → plain.Act → Act
-act_of m f (plain.binary kind flags w a b) = act.Binary kind flags w (input_of m f (Some w) a) (input_of m f (Some w) b)
+act_of m f (plain.binary kind flags w a b) = binary_of m f kind flags w a b
 act_of m f (plain.compare p over a b) = compare_by m f p (width_in m over) (is_pointer (meant m.types over)) a b
-act_of m f (plain.select c over a b) = act.Select (input_of m f (Some 1) c) (typed m f over a) (typed m f over b)
-act_of m f (plain.convert kind flags from to a) = act.Convert kind flags.nneg from to (input_of m f (Some from) a)
-act_of m f (plain.freeze over a) = act.Freeze (typed m f over a)
-act_of m f (plain.phi over arms) = act.Phi (arms_of m f (width_in m over) arms)
-act_of m f (plain.slot over align) = act.Slot (written_or align (meant m.types over))
-act_of m f (plain.load over target align range) =
-    load_by m f (meant m.types over) target align (spans_of m (number_width (meant m.types over)) range) (slot_place f target)
-act_of m f (plain.store over v target align) = store_by m f (meant m.types over) v target align (slot_place f target)
-act_of m f (plain.offset a) = act.Address (form_input m f a)
+act_of m f (plain.select c over a b) = select_of m f c over a b
+act_of m f (plain.convert kind flags from to a) = convert_of m f kind flags from to a
+act_of m f (plain.freeze over a) = freeze_of m f over a
+act_of m f (plain.phi over arms) = phi_of m f over arms
+act_of m f (plain.slot over align) = slot_act m over align
+act_of m f (plain.load over target align range) = load_of m f over target align range
+act_of m f (plain.store over v target align) = store_of m f over v target align
+act_of m f (plain.offset a) = offset_of m f a
 act_of m f (plain.call over name arguments) = call_by m f name arguments (body_place m name) (is_some (intrinsic_of name))
 act_of m f (plain.extract w from part) = extract_of (register_place f from) part
 act_of m f (plain.goto b) = act.Goto (block_place f b)
-act_of m f (plain.branch c taken other) = act.Branch (input_of m f (Some 1) c) (block_place f taken) (block_place f other)
-act_of m f (plain.switch w on default cases) = act.Switch w (input_of m f (Some w) on) (cases_of f w cases) (block_place f default)
-act_of m f (plain.give over None) = act.Return None
-act_of m f (plain.give over (Some v)) = act.Return (Some (typed m f over v))
+act_of m f (plain.branch c taken other) = branch_of m f c taken other
+act_of m f (plain.switch w on default cases) = switch_of m f w on default cases
+act_of m f (plain.give over value) = return_of m f over value
 act_of m f plain.unreachable = act.Unreachable

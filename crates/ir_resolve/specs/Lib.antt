@@ -3,3 +3,4 @@ pub mod Acts
 pub mod Resolved
 pub mod Measures
 pub mod Shaped
+pub mod Locals

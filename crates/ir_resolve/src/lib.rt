@@ -10,3 +10,10 @@ mod measure;
 
 mod shapes;
 mod operands;
+mod local;
+mod access;
+mod calls;
+mod acts;
+mod program;
+
+pub use program::resolve;

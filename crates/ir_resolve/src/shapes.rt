@@ -6,7 +6,7 @@ ghost use Rattle.ir_ast.specs.View.{view_type};
 ghost use Rattle.ir_ast.specs.ProgramView.{view_entries, view_type_entry};
 ghost use Rattle.ir_layout.specs.Sizes.{size_of, align_of};
 ghost use Rattle.ir_layout.specs.Facts.{cut};
-ghost use Rattle.ir_type.specs.Whole.{Types, meant};
+ghost use Rattle.ir_type.specs.Whole.{meant, is_pointer};
 ghost use Rattle.ir_whole.specs.Heads.{type_at, type_of, fields, RowFits, HeadFits};
 ghost use Rattle.ir_whole.specs.Numbers.{types_of, IsFor};
 ghost use Rattle.ir_whole.specs.Questions.{width_of, field_in, field_of};
@@ -139,6 +139,15 @@ impl Shapes {
         ensures { result ≡ width_of (type_in self.now number) }
     {
         self.numbers.width(number)
+    }
+
+    /// Whether a type is `ptr`.
+    pub fn is_pointer(&self, number: u32) -> bool
+        requires within { number < count_of self.now }
+        requires sound { IsSound self.now }
+        ensures { result ≡ is_pointer (type_in self.now number) }
+    {
+        self.numbers.is_pointer(number)
     }
 
     /// Where a field of a struct stands in it, in bytes.
