@@ -1,6 +1,6 @@
 -- Functions with a body by their places.
-use Rattle.std.proofs.Common.{◌≡◌, ◌<◌, ℕ, zero, suc, Bool, true, false, Option, Some, None, option_map, is_some, List, [], ◌∷◌, length, map, refl, sym, ◌∙◌, ap, arith}
-use Rattle.std.specs.Prelude.{slice_get, slice_index_or, option_and_then, if◌then◌else◌}
+use Rattle.std.proofs.Common.{◌≡◌, ℕ, zero, suc, false, Option, Some, None, option_map, is_some, List, [], ◌∷◌, map, refl, sym, ◌∙◌, ap}
+use Rattle.std.specs.Prelude.{slice_get, slice_index_or, option_and_then}
 use Rattle.ir_ast.specs.Program.{FunctionView}
 use Rattle.ir_ast.specs.ProgramView.{view_module, view_function, view_entries, view_blocks}
 use Rattle.ir_ast.specs.Table.{place_of}

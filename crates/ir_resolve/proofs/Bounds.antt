@@ -1,15 +1,14 @@
 -- What is kept of types, from what is kept of their parts.
-use Rattle.std.proofs.Common.{◌≡◌, ℕ, zero, suc, ◌+◌, ◌*◌, ◌<◌, ◌≤◌, max, List, [], ◌∷◌, ◌++◌, Some, length, refl, sym, ◌∙◌, ap, subst, arith}
-use Rattle.std.specs.Prelude.{slice_get, if◌then◌else◌, Bool, true, false}
+use Rattle.std.proofs.Common.{◌≡◌, ℕ, ◌+◌, ◌<◌, ◌≤◌, max, List, [], ◌∷◌, ◌++◌, Some, length, refl, sym, ◌∙◌, ap, subst, arith}
+use Rattle.std.specs.Prelude.{slice_get}
 use Rattle.std.proofs.lemmas.List.{append_assoc, append-nil}
 use Rattle.ir_ast.specs.Plain.{Ty, Tys, nothing, integer, pointer, array, structure, packed, named, opaque, no_types, type_and}
-use Rattle.ir_type.specs.Whole.{is_memory_width}
 use Rattle.ir_layout.specs.Sizes.{up_to, size_of, align_of, greatest_align, end_of, packed_end_of}
 use Rattle.ir_layout.specs.Facts.{cut}
-use Rattle.ir_layout.proofs.Cuts.{cut_up, cut_field, cut_plus}
-use Rattle.ir_whole.specs.Heads.{type_at, fields, RowFits}
+use Rattle.ir_layout.proofs.Cuts.{cut_up, cut_field}
+use Rattle.ir_whole.specs.Heads.{type_at}
 use Rattle.ir_resolve.specs.declared.measure.Measure.{Measure}
-use Rattle.ir_resolve.specs.Measures.{offsets_from, packed_offsets_from, offsets_of, measure_of, no_fields, with_field, with_packed, fields_from, packed_from, ended, IsKept, AreMeasured}
+use Rattle.ir_resolve.specs.Measures.{offsets_from, packed_offsets_from, measure_of, no_fields, with_field, with_packed, fields_from, packed_from, ended, IsKept, AreMeasured}
 
 pub record IsAlign (n : ℕ) : Type 0 where
   pub some : 0 < n

@@ -1,9 +1,7 @@
 -- Functions and objects by their places.
-use Rattle.std.proofs.Common.{◌≡◌, ◌<◌, ◌≤◌, ◌+◌, ℕ, zero, suc, Bool, Option, Some, None, option_map, List, [], ◌∷◌, ◌++◌, length, map, drop, refl, sym, ◌∙◌, ap, subst, add-one, arith}
+use Rattle.std.proofs.Common.{◌≡◌, ◌≤◌, ◌+◌, ℕ, zero, suc, Option, Some, None, option_map, List, [], ◌∷◌, ◌++◌, length, map, drop, refl, sym, ◌∙◌, ap, subst, add-one}
 use Rattle.std.specs.Prelude.{slice_get, unwrap_or}
-use Rattle.std.proofs.lemmas.Option.{slice_get-map}
 use Rattle.std.proofs.lemmas.List.{append_assoc, append-nil, drop_all}
-use Rattle.ir_ast.specs.View.{view_type}
 use Rattle.ir_ast.specs.Program.{BlockView, FunctionView, GlobalView, ModuleView}
 use Rattle.ir_ast.specs.ProgramView.{view_module, view_function, view_global, view_entries}
 use Rattle.ir_ast.specs.declared.instr.Function.{Function}
@@ -13,7 +11,6 @@ use Rattle.ir_layout.specs.Sizes.{object_align}
 use Rattle.ir_typing.specs.Registers.{blocks_of}
 use Rattle.ir_typing.specs.Places.{register_names}
 use Rattle.ir_code.specs.declared.program.Code.{Code}
-use Rattle.ir_code.specs.declared.program.Object.{Object}
 use Rattle.ir_resolve.specs.declared.local.Local.{Local}
 use Rattle.ir_resolve.specs.Locals.{IsLocalOf}
 use Rattle.ir_resolve.specs.Resolved.{block_of, code_of, object_of, program_of}

@@ -1,7 +1,6 @@
 -- Which registers hold addresses of slots, in text order.
-use Rattle.std.proofs.Common.{◌≡◌, suc, ℕ, Bool, true, false, Option, Some, None, option_map, List, [], ◌∷◌, ◌++◌, length, map, replicate, refl, sym, ◌∙◌, ap, subst}
+use Rattle.std.proofs.Common.{◌≡◌, suc, ℕ, Bool, false, Option, Some, None, option_map, List, [], ◌∷◌, ◌++◌, length, map, replicate, refl, sym, ◌∙◌, ap}
 use Rattle.std.specs.Prelude.{flat_map, option_to_list}
-use Rattle.std.proofs.lemmas.List.{append_assoc, append-nil}
 use Rattle.ir_ast.specs.Plain.{Ty}
 use Rattle.ir_ast.specs.View.{view_type}
 use Rattle.ir_ast.specs.Program.{InstrView, BlockView, FunctionView}
@@ -11,7 +10,6 @@ use Rattle.ir_ast.specs.declared.instr.Instr.{Instr}
 use Rattle.ir_ast.specs.declared.instr.Block.{Block}
 use Rattle.ir_ast.specs.declared.instr.Function.{Function}
 use Rattle.ir_typing.specs.Registers.{Kind, value_of, kind_of, set_by, registers_of, blocks_of}
-use Rattle.ir_typing.specs.Places.{register_names, block_names}
 use Rattle.ir_resolve.specs.declared.local.Local.{Local}
 use Rattle.ir_resolve.specs.Acts.{is_slot, slots_of}
 use Rattle.ir_resolve.specs.Locals.{set_flags, instr_flags, block_flags, IsLocalOf}

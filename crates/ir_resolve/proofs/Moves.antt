@@ -1,8 +1,8 @@
 -- The steps of a `getelementptr`, one behind another.
-use Rattle.std.proofs.Common.{◌≡◌, ℕ, suc, ◌+◌, ◌-◌, ◌<◌, ◌≤◌, Bool, Option, Some, List, [], ◌∷◌, ◌++◌, length, take, drop, refl, sym, ◌∙◌, ap, arith, rules}
+use Rattle.std.proofs.Common.{◌≡◌, ◌-◌, ◌≤◌, Bool, Some, List, [], ◌∷◌, ◌++◌, length, take, drop, refl, sym, ◌∙◌, ap, arith}
 use Rattle.std.proofs.lemmas.List.{append_assoc, take_all}
 use Rattle.std.specs.Prelude.{slice_index_or}
-use Rattle.ir_ast.specs.Plain.{Ty, Indices}
+use Rattle.ir_ast.specs.Plain.{Ty}
 use Rattle.ir_ast.specs.Program.{FunctionView, ModuleView}
 use Rattle.ir_ast.specs.View.{view_type, view_operand, view_indices, view_index_list}
 use Rattle.ir_ast.specs.declared.types.IrType.{IrType}

@@ -1,10 +1,10 @@
 -- Where fields stand, one by one and all at once.
-use Rattle.std.proofs.Common.{◌≡◌, ℕ, zero, suc, ◌+◌, ◌<◌, ◌≤◌, List, [], ◌∷◌, Option, Some, None, length, refl, sym, ◌∙◌, ap, subst, arith, Bool, true, false, nat_lt, if◌then◌else◌}
+use Rattle.std.proofs.Common.{◌≡◌, ℕ, zero, suc, ◌+◌, Some, None, ◌∙◌, ap, arith, true, false, nat_lt, if◌then◌else◌}
 use Rattle.std.specs.Prelude.{slice_get}
 use Rattle.ir_ast.specs.Plain.{Ty, Tys, nothing, integer, pointer, array, structure, packed, named, opaque, no_types, type_and}
-use Rattle.ir_layout.specs.Sizes.{up_to, size_of, align_of, offset_in, packed_offset_in, field_offset}
+use Rattle.ir_layout.specs.Sizes.{up_to, size_of, align_of, offset_in, packed_offset_in}
 use Rattle.ir_layout.specs.Facts.{cut}
-use Rattle.ir_layout.specs.Offsets.{count_in, fields_in}
+use Rattle.ir_layout.specs.Offsets.{count_in}
 use Rattle.ir_resolve.specs.declared.measure.Measure.{Measure}
 use Rattle.ir_resolve.specs.Measures.{offsets_from, packed_offsets_from, offsets_of, measure_of}
 use Rattle.ir_resolve.specs.Operands.{offset_at}

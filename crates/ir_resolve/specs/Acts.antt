@@ -1,5 +1,5 @@
 -- Instructions with places for names, and widths, sizes and alignments for types.
-use Rattle.std.specs.Prelude.{ℕ, zero, suc, ℤ, Bool, true, false, if◌then◌else◌, min, Option, Some, None, option_map, option_and_then, unwrap_or, is_some, List, [], ◌∷◌, map, position, bytes_eq, length, codes, nat_eq, slice_index_or}
+use Rattle.std.specs.Prelude.{ℕ, ℤ, Bool, true, false, if◌then◌else◌, min, Option, Some, None, option_map, option_and_then, unwrap_or, is_some, List, [], ◌∷◌, map, position, bytes_eq, length, codes, nat_eq, slice_index_or}
 use Rattle.std.specs.List.{starts_with}
 use Rattle.ir_ast.specs.Plain.{Ty, Val, Form, local}
 use Rattle.ir_ast.specs.Program as plain

@@ -1,10 +1,10 @@
 -- What the code keeps of a function's places.
-use Rattle.std.specs.Prelude.{◌≡◌, ℕ, Bool, Option, option_map, List, map, flat_map, length}
+use Rattle.std.specs.Prelude.{◌≡◌, Bool, List, map, flat_map, length}
 use Rattle.ir_ast.specs.Program.{InstrView, FunctionView}
 use Rattle.ir_ast.specs.ProgramView.{view_instr}
 use Rattle.ir_ast.specs.declared.instr.Instr.{Instr}
 use Rattle.ir_ast.specs.declared.instr.Block.{Block}
-use Rattle.ir_typing.specs.Registers.{Kind, set_by}
+use Rattle.ir_typing.specs.Registers.{set_by}
 use Rattle.ir_typing.specs.Places.{register_names, block_names}
 use Rattle.ir_resolve.specs.declared.local.Local.{Local}
 use Rattle.ir_resolve.specs.Acts.{is_slot, slots_of}

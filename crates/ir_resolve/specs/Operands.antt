@@ -1,6 +1,6 @@
 -- Operands with places for names: what each begins with, and what is added to it.
-use Rattle.std.specs.Prelude.{ℕ, ◌==◌, ℤ, Bool, if◌then◌else◌, min, nat_lt, Option, Some, None, option_map, option_and_then, unwrap_or, List, [], ◌∷◌, ◌++◌, position, bytes_eq, slice_get}
-use Rattle.ir_ast.specs.Plain.{Ty, integer, pointer, array, structure, packed, Val, Form, Indices, local, global, number, null, poison, address, form, no_indices, index_and}
+use Rattle.std.specs.Prelude.{ℕ, ◌==◌, ℤ, Bool, if◌then◌else◌, min, nat_lt, Option, Some, None, option_and_then, unwrap_or, List, [], ◌∷◌, ◌++◌, position, bytes_eq}
+use Rattle.ir_ast.specs.Plain.{Ty, array, Val, Form, Indices, local, global, number, null, poison, address, form, no_indices, index_and}
 use Rattle.ir_ast.specs.Program.{FunctionView, ModuleView}
 use Rattle.ir_ast.specs.Table.{names_of}
 use Rattle.ir_type.specs.Whole.{meant}

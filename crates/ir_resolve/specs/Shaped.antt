@@ -1,5 +1,5 @@
 -- What the code keeps of types.
-use Rattle.std.specs.Prelude.{◌≡◌, ℕ, length, List}
+use Rattle.std.specs.Prelude.{◌≡◌, ℕ, length}
 use Rattle.ir_ast.specs.Plain.{Ty, opaque}
 use Rattle.ir_type.specs.Whole.{Types}
 use Rattle.ir_whole.specs.Heads.{type_at}

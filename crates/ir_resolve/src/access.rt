@@ -107,11 +107,7 @@ fn add_bound(
 }
 
 /// The bounds of a range two by two.
-fn spans_in(
-    alloc: Global,
-    width: u32,
-    bounds: &[(IrType, i128)],
-) -> Result<Seq<Span>, AllocError>
+fn spans_in(alloc: Global, width: u32, bounds: &[(IrType, i128)]) -> Result<Seq<Span>, AllocError>
     ensures { IfOk result (λ spans. spans ≡ definition.spans_from width None (map (λ n. (view_type n.0, n.1)) bounds.now)) }
 {
     let mut spans = Seq::new(alloc);
@@ -239,7 +235,9 @@ pub fn load(
     let over = shapes.number(alloc, &kernel.types, over)?;
     let spans = spans_of(alloc, kernel, width_at(shapes, over), range)?;
     let slot = slot_place(scope, local, address);
-    load_by(alloc, kernel, scope, shapes, over, address, align, spans, slot)
+    load_by(
+        alloc, kernel, scope, shapes, over, address, align, spans, slot,
+    )
 }
 
 /// A store of the type with a number.
@@ -298,5 +296,7 @@ pub fn store(
 {
     let over = shapes.number(alloc, &kernel.types, over)?;
     let slot = slot_place(scope, local, address);
-    store_by(alloc, kernel, scope, shapes, over, value, address, align, slot)
+    store_by(
+        alloc, kernel, scope, shapes, over, value, address, align, slot,
+    )
 }

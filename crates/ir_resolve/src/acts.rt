@@ -19,7 +19,9 @@ use crate::local::Local;
 use crate::operands::{form_input, input_of, width_in};
 use crate::shapes::Shapes;
 use hk_seq::Seq;
-use ir_ast::{BinaryKind, ConvertKind, Flags, Gep, Instr, IrType, Module, Name, Op, Operand, Predicate};
+use ir_ast::{
+    BinaryKind, ConvertKind, Flags, Gep, Instr, IrType, Module, Name, Op, Operand, Predicate,
+};
 use ir_code::{Act, Arm, Case, Input, Step};
 use ir_typing::Scope;
 use std::alloc::{AllocError, Global};
@@ -123,7 +125,9 @@ fn compare(
     let over = shapes.number(alloc, &kernel.types, over)?;
     let width = shapes.width(over);
     let pointers = shapes.is_pointer(over);
-    compare_by(alloc, kernel, scope, shapes, predicate, width, pointers, a, b)
+    compare_by(
+        alloc, kernel, scope, shapes, predicate, width, pointers, a, b,
+    )
 }
 
 fn select(
@@ -449,7 +453,15 @@ fn act_of(
         } => convert(alloc, kernel, scope, shapes, *kind, *flags, *from, *to, a),
         Op::Freeze { over, a } => freeze(alloc, kernel, scope, shapes, over, a),
         Op::Phi { over, arms } => {
-            phi(alloc, kernel, scope, local, shapes, over, arms.items.as_slice())
+            phi(
+                alloc,
+                kernel,
+                scope,
+                local,
+                shapes,
+                over,
+                arms.items.as_slice(),
+            )
         }
         Op::Slot { over, align } => slot(alloc, kernel, shapes, over, *align),
         Op::Load {
@@ -457,17 +469,30 @@ fn act_of(
             address,
             align,
             range,
-        } => load(alloc, kernel, scope, local, shapes, over, address, *align, range),
+        } => load(
+            alloc, kernel, scope, local, shapes, over, address, *align, range,
+        ),
         Op::Store {
             over,
             value,
             address,
             align,
-        } => store(alloc, kernel, scope, local, shapes, over, value, address, *align),
+        } => store(
+            alloc, kernel, scope, local, shapes, over, value, address, *align,
+        ),
         Op::Offset(gep) => offset(alloc, kernel, scope, shapes, gep),
         Op::Call {
-            callee, arguments, ..
-        } => call(alloc, kernel, scope, shapes, callee, arguments.items.as_slice()),
+            callee,
+            arguments,
+            ..
+        } => call(
+            alloc,
+            kernel,
+            scope,
+            shapes,
+            callee,
+            arguments.items.as_slice(),
+        ),
         Op::Extract { from, part, .. } => Ok(extract(scope, from, *part)),
         Op::Goto { target } => Ok(Act::Goto {
             block: block_place(scope, local, target),
@@ -482,7 +507,9 @@ fn act_of(
             cases,
         } => {
             let items = cases.items.as_slice();
-            switch(alloc, kernel, scope, local, shapes, *width, on, default, items)
+            switch(
+                alloc, kernel, scope, local, shapes, *width, on, default, items,
+            )
         }
         Op::Return { over, value } => give(alloc, kernel, scope, shapes, over, value),
         Op::Unreachable => Ok(Act::Unreachable),

@@ -203,7 +203,14 @@ fn intrinsic_act(
 {
     match overflow_kind(name.as_bytes()) {
         Some(kind) => overflow_act(alloc, kernel, scope, shapes, kind, arguments),
-        None => other_act(alloc, kernel, scope, shapes, pair_kind(name.as_bytes()), arguments),
+        None => other_act(
+            alloc,
+            kernel,
+            scope,
+            shapes,
+            pair_kind(name.as_bytes()),
+            arguments,
+        ),
     }
 }
 

@@ -4,16 +4,14 @@
 //! come in; the program that a run steps through goes out.
 #![tactic(auto)]
 
-mod literal;
-mod measure;
-
-
-mod shapes;
-mod operands;
-mod local;
 mod access;
-mod calls;
 mod acts;
+mod calls;
+mod literal;
+mod local;
+mod measure;
+mod operands;
 mod program;
+mod shapes;
 
 pub use program::resolve;

@@ -168,7 +168,10 @@ fn part_move(
             let each = shapes.size_of(element);
             index_move(kernel, scope, inbounds, each, width, operand)
         }
-        None => field_move(inbounds, bytes_before(shapes, at, field_index(width, operand))),
+        None => field_move(
+            inbounds,
+            bytes_before(shapes, at, field_index(width, operand)),
+        ),
     }
 }
 
@@ -230,12 +233,7 @@ fn move_from(
 }
 
 /// The part that an index steps to, where the steps before it led to a type.
-fn part_from(
-    shapes: &Shapes,
-    at: Option<u32>,
-    width: Option<u32>,
-    operand: &Operand,
-) -> Option<u32>
+fn part_from(shapes: &Shapes, at: Option<u32>, width: Option<u32>, operand: &Operand) -> Option<u32>
     requires within { IfSome at (λ n. n < count_of shapes.now) }
     requires sound { IsSound shapes.now }
     ensures part { option_map (type_in shapes.now) result ≡ definition.part_from (option_map (type_in shapes.now) at) width (view_operand operand.now) }
@@ -427,6 +425,15 @@ pub fn form_input(
     let Input { base, mut moves } = input_of(alloc, kernel, scope, shapes, None, &gep.base)?;
     let over = shapes.number(alloc, &kernel.types, &gep.base_type)?;
     let inbounds = gep.flags.inbounds;
-    add_moves(alloc, kernel, scope, shapes, inbounds, over, &gep.indices, &mut moves)?;
+    add_moves(
+        alloc,
+        kernel,
+        scope,
+        shapes,
+        inbounds,
+        over,
+        &gep.indices,
+        &mut moves,
+    )?;
     Ok(Input { base, moves })
 }

@@ -186,11 +186,7 @@ fn object_at(kernel: &Module, layout: &Layout, place: u32) -> Object
 
 /// The objects of a module.
 #[tactic(auto, using(crate::proofs::Codes::one_more, crate::proofs::Codes::no_more))]
-fn objects_of(
-    alloc: Global,
-    kernel: &Module,
-    layout: &Layout,
-) -> Result<Seq<Object>, AllocError>
+fn objects_of(alloc: Global, kernel: &Module, layout: &Layout) -> Result<Seq<Object>, AllocError>
     requires small { IsSmall kernel.now }
     requires layout { IsLayoutOf (view_module kernel.now) layout.now }
     ensures { IfOk result (λ r. r ≡ (definition.program_of (view_module kernel.now)).objects) }

@@ -157,7 +157,10 @@ impl Shapes {
         requires sound { IsSound self.now }
         ensures { result ≡ offset_at (type_in self.now number) field }
     {
-        field_offset(measure_at(&self.numbers, self.measures.as_slice(), number), field)
+        field_offset(
+            measure_at(&self.numbers, self.measures.as_slice(), number),
+            field,
+        )
     }
 
     /// What a type is, by the numbers of its parts.

@@ -1,4 +1,4 @@
-use Rattle.std.proofs.Common.{◌≡◌, ◌<◌, ◌≤◌, ◌++◌, ℕ, Some, length, drop}
+use Rattle.std.proofs.Common.{◌≡◌, ◌<◌, ◌≤◌, ◌++◌, ℕ, Some, drop}
 use Rattle.std.specs.Prelude.{option_map, IfSome}
 use Rattle.ir_ast.specs.View.{view_indices}
 use Rattle.ir_ast.specs.ProgramView.{view_module}
