@@ -1,3 +1,6 @@
 pub mod Operands
 pub mod Acts
 pub mod Resolved
+pub mod Measures
+pub mod Shaped
+pub mod Locals

@@ -1,19 +1,25 @@
 -- Operands with places for names: what each begins with, and what is added to it.
-use Rattle.std.specs.Prelude.{ℕ, ◌/◌, ℤ, Bool, true, false, Option, Some, None, option_map, List, [], ◌∷◌, ◌++◌, position, bytes_eq, length, nat_eq}
-use Rattle.ir_ast.specs.Plain.{Ty, integer, pointer, array, structure, packed, Val, Form, Indices, local, global, number, null, poison, address, form, no_indices, index_and}
-use Rattle.ir_ast.specs.Program.{FunctionView, GlobalView, ModuleView}
+use Rattle.std.specs.Prelude.{ℕ, ◌==◌, ℤ, Bool, if◌then◌else◌, min, nat_lt, Option, Some, None, option_and_then, unwrap_or, List, [], ◌∷◌, ◌++◌, position, bytes_eq}
+use Rattle.ir_ast.specs.Plain.{Ty, array, Val, Form, Indices, local, global, number, null, poison, address, form, no_indices, index_and}
+use Rattle.ir_ast.specs.Program.{FunctionView, ModuleView}
 use Rattle.ir_ast.specs.Table.{names_of}
-use Rattle.ir_ast.specs.declared.operand.Flags.{Flags}
-use Rattle.ir_type.specs.Whole.{Types, meant}
+use Rattle.ir_type.specs.Whole.{meant}
 use Rattle.ir_layout.specs.Sizes.{size_of, field_offset}
-use Rattle.ir_typing.specs.Places.{register_names, block_names}
-use Rattle.ir_typing.specs.Fits.{modulo, list_of, field_at}
+use Rattle.ir_layout.specs.Facts.{cut}
+use Rattle.ir_layout.specs.Offsets.{fields_in}
+use Rattle.ir_whole.specs.Questions.{width_of, field_of}
+use Rattle.ir_typing.specs.Places.{register_names}
+use Rattle.ir_typing.specs.Fits.{modulo}
 use Rattle.ir_value.specs.declared.value.Value.TheVariants.{Number, Null, Address, Poison}
 use Rattle.ir_code.specs.declared.input.Base.{Base}
 use Rattle.ir_code.specs.declared.input.Base.TheVariants.{Register, Constant, Unknown}
 use Rattle.ir_code.specs.declared.input.Move.{Move}
 use Rattle.ir_code.specs.declared.input.Move.TheVariants.{Begin, By}
 use Rattle.ir_code.specs.declared.input.Input.{Input}
+
+-- the number of a width that a whole number stands for; no text has a wider one than 64 bits
+abbrev pub number_in : ℕ → ℤ → ℕ
+number_in w n = modulo (min w 64) n
 
 -- ---- what an operand begins with
 
@@ -26,61 +32,81 @@ abbrev pub object_base : Option ℕ → Base
 object_base None = Unknown
 object_base (Some o) = Constant (Address o 0)
 
-abbrev pub number_base : Ty → ℤ → Base
-number_base (integer w) n = Constant (Number (modulo w n))
-number_base _ n = Unknown
+abbrev pub number_base : Option ℕ → ℤ → Base
+number_base (Some w) n = Constant (Number (number_in w n))
+number_base None n = Unknown
 
--- the operand of a whole type, where it is no `getelementptr`
-abbrev pub base_of : ModuleView → FunctionView → Ty → Val → Base
-base_of m f t (local x) = register_base (position (bytes_eq x) (register_names f))
-base_of m f t (global x) = object_base (position (bytes_eq x) (names_of m.globals))
-base_of m f t (number n) = number_base t n
-base_of m f t null = Constant Null
-base_of m f t poison = Constant Poison
-base_of m f t (address a) = Unknown
+-- an operand that is no `getelementptr`, of an integer type of this width, or of another type
+abbrev pub base_of : ModuleView → FunctionView → Option ℕ → Val → Base
+base_of m f w (local x) = register_base (position (bytes_eq x) (register_names f))
+base_of m f w (global x) = object_base (position (bytes_eq x) (names_of m.globals))
+base_of m f w (number n) = number_base w n
+base_of m f w null = Constant Null
+base_of m f w poison = Constant Poison
+base_of m f w (address a) = Unknown
 
 -- ---- what is added to it
 
-abbrev pub width_of : Ty → ℕ
-width_of (integer w) = w
-width_of _ = 0
-
 -- an index over values of a size
-abbrev pub index_move : ModuleView → FunctionView → Bool → ℕ → Ty → Val → Move
-index_move m f inbounds each over v = By inbounds (width_of over) each (base_of m f over v)
-
--- a field of a struct: one step over the bytes before it
-abbrev pub field_move : Bool → Ty → Val → Move
-field_move inbounds t (number n) = By inbounds 64 (field_offset t (modulo 32 n)) (Constant (Number 1))
-field_move inbounds t _ = By inbounds 64 0 Unknown
-
--- the step to a part of a type
-abbrev pub part_move : ModuleView → FunctionView → Bool → Ty → Ty → Val → Move
-part_move m f inbounds (array n t) over v = index_move m f inbounds (size_of t) over v
-part_move m f inbounds t over v = field_move inbounds t v
-
-abbrev pub part_of : Ty → Ty → Val → Option Ty
-part_of (array n t) over v = Some t
-part_of (structure ts) over v = field_at (list_of ts) over v
-part_of (packed ts) over v = field_at (list_of ts) over v
-part_of _ over v = None
+abbrev pub index_move : ModuleView → FunctionView → Bool → ℕ → Option ℕ → Val → Move
+index_move m f inbounds each w v = By inbounds (unwrap_or w 0) each (base_of m f w v)
 
 -- a step to no part of the type
 abbrev pub lost_move : Bool → Move
 lost_move inbounds = By inbounds 64 0 Unknown
 
--- the steps of these indices, from a type on; index types are seen through
+-- a field of a struct: one step over the bytes before it
+abbrev pub field_move : Bool → Option ℕ → Move
+field_move inbounds None = lost_move inbounds
+field_move inbounds (Some bytes) = By inbounds 64 bytes (Constant (Number 1))
+
+-- the field that an index chooses: a constant i32
+abbrev pub field_index : Option ℕ → Val → Option ℕ
+field_index (Some w) (number n) = if w == 32 then Some (modulo 32 n) else None
+field_index _ _ = None
+
+-- the bytes before a field; sizes and offsets over 2^32, which no kernel that was laid out has, count as 2^32 + 1
+abbrev pub offset_at : Ty → ℕ → Option ℕ
+offset_at t k = if nat_lt k (fields_in t) then Some (cut (field_offset t k)) else None
+
+abbrev pub element_of : Ty → Option Ty
+element_of (array n t) = Some t
+element_of _ = None
+
+-- the step to a part of a type: over values of its element where it is an array, else to a field
+abbrev pub part_move : ModuleView → FunctionView → Bool → Ty → Option Ty → Option ℕ → Val → Move
+part_move m f inbounds t (Some element) w v = index_move m f inbounds (cut (size_of element)) w v
+part_move m f inbounds t None w v = field_move inbounds (option_and_then (offset_at t) (field_index w v))
+
+-- the part of a type that an index steps to
+abbrev pub part_of : Ty → Option Ty → Option ℕ → Val → Option Ty
+part_of t (Some element) w v = Some element
+part_of t None w v = option_and_then (λ k. field_of k t) (field_index w v)
+
+-- the same from a type on, where the steps before it led to one
+abbrev pub move_from : ModuleView → FunctionView → Bool → Option Ty → Option ℕ → Val → Move
+move_from m f inbounds None w v = lost_move inbounds
+move_from m f inbounds (Some t) w v = part_move m f inbounds t (element_of t) w v
+
+abbrev pub part_from : Option Ty → Option ℕ → Val → Option Ty
+part_from None w v = None
+part_from (Some t) w v = part_of t (element_of t) w v
+
+-- the width of an index; names of types are seen through
+abbrev pub width_in : ModuleView → Ty → Option ℕ
+width_in m over = width_of (meant m.types over)
+
+-- the steps of these indices, from a type on
 abbrev pub part_moves : ModuleView → FunctionView → Bool → Option Ty → Indices → List Move
 part_moves m f inbounds t no_indices = []
-part_moves m f inbounds None (index_and over v is) = lost_move inbounds ∷ []
-part_moves m f inbounds (Some t) (index_and over v is) =
-    part_move m f inbounds t (meant m.types over) v ∷ part_moves m f inbounds (part_of t (meant m.types over) v) is
+part_moves m f inbounds t (index_and over v is) =
+    move_from m f inbounds t (width_in m over) v ∷ part_moves m f inbounds (part_from t (width_in m over) v) is
 
 -- the first index steps over whole values of the type
 abbrev pub moves_of : ModuleView → FunctionView → Bool → Ty → Indices → List Move
 moves_of m f inbounds t no_indices = Begin inbounds ∷ []
 moves_of m f inbounds t (index_and over v is) =
-    Begin inbounds ∷ index_move m f inbounds (size_of t) (meant m.types over) v ∷ part_moves m f inbounds (Some t) is
+    Begin inbounds ∷ index_move m f inbounds (cut (size_of t)) (width_in m over) v ∷ part_moves m f inbounds (Some t) is
 
 abbrev pub plain_input : Base → Input
 plain_input b = record { base = b; moves = [] }
@@ -88,13 +114,13 @@ plain_input b = record { base = b; moves = [] }
 abbrev pub moved_input : Input → List Move → Input
 moved_input i moves = record { base = i.base; moves = i.moves ++ moves }
 
--- the operand of a whole type
+-- the operand of an integer type of this width, or of another type
 abbrev mutual
-  pub input_of : ModuleView → FunctionView → Ty → Val → Input
-  input_of m f t (address a) = form_input m f a
-  input_of m f t v = plain_input (base_of m f t v)
+  pub input_of : ModuleView → FunctionView → Option ℕ → Val → Input
+  input_of m f w (address a) = form_input m f a
+  input_of m f w v = plain_input (base_of m f w v)
 
   -- `getelementptr`: what its base begins with, and its steps behind those of its base
   pub form_input : ModuleView → FunctionView → Form → Input
   form_input m f (form flags over base indices) =
-      moved_input (input_of m f pointer base) (moves_of m f flags.inbounds (meant m.types over) indices)
+      moved_input (input_of m f None base) (moves_of m f flags.inbounds (meant m.types over) indices)

@@ -1,6 +1,6 @@
 -- The code of a module: what runs stand on. Functions, blocks, registers and objects are their places in text order; where a name
 -- stands twice, its first place counts.
-use Rattle.std.specs.Prelude.{ℕ, Option, None, List, map, position, option_and_then, bytes_eq, length}
+use Rattle.std.specs.Prelude.{ℕ, Option, List, map, position, option_and_then, bytes_eq, length}
 use Rattle.ir_ast.specs.Program.{InstrView, BlockView, FunctionView, GlobalView, ModuleView}
 use Rattle.ir_layout.specs.Sizes.{object_align}
 use Rattle.ir_typing.specs.Registers.{blocks_of}
@@ -12,8 +12,12 @@ use Rattle.ir_code.specs.declared.program.Object.{Object}
 use Rattle.ir_code.specs.declared.program.Program.{Program}
 use Rattle.ir_resolve.specs.Acts.{act_of}
 
+-- the place of the register that an instruction sets
+abbrev pub result_place : FunctionView → Option (List ℕ) → Option ℕ
+result_place f name = option_and_then (λ x. position (bytes_eq x) (register_names f)) name
+
 abbrev pub step_of : ModuleView → FunctionView → InstrView → Step
-step_of m f i = record { line = i.line; result = option_and_then (λ x. position (bytes_eq x) (register_names f)) i.result; act = act_of m f i.act }
+step_of m f i = record { line = i.line; result = result_place f i.result; act = act_of m f i.act }
 
 abbrev pub block_of : ModuleView → FunctionView → BlockView → Block
 block_of m f b = record { steps = map (step_of m f) b.instrs }

@@ -1,0 +1,8 @@
+pub mod Bounds
+pub mod Shaping
+pub mod Offsets
+pub mod Moves
+pub mod Flags
+pub mod Written
+pub mod Bodies
+pub mod Codes
