@@ -21,3 +21,5 @@ pub mod Beginning
 pub mod KeptQuestions
 pub mod SetNumbers
 pub mod TestedGoals
+pub mod Subjects
+pub mod OurDemands

@@ -19,6 +19,22 @@ impl Model for SizeList {
     ghost view = { λ l. l.items.items };
 }
 
+impl SizeList {
+    /// These numbers.
+    pub fn from_vec(items: Vec<u64>) -> SizeList
+        ensures { result ≡ items.items }
+    {
+        SizeList { items }
+    }
+
+    /// The numbers, lent.
+    pub fn as_slice(&self) -> &[u64]
+        ensures { result.now ≡ self.now }
+    {
+        self.items.as_slice()
+    }
+}
+
 /// A fact that holds of each reading, over the numbers of reads and quantifiers.
 #[derive(Debug, Drop)]
 pub enum Instance {

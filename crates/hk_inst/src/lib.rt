@@ -5,6 +5,7 @@
 #![tactic(auto)]
 
 mod completion;
+mod demand;
 mod growth;
 mod instance;
 pub mod laws;
@@ -15,9 +16,11 @@ mod question;
 mod required;
 mod start;
 mod state;
+mod subject;
 
 pub use instance::{Instance, InstanceList, SizeList};
 pub use question::Question;
+pub use subject::AddFault;
 
 #[cfg(test)]
 mod tests;
