@@ -88,14 +88,14 @@ fn tuple_demand(
 }
 
 // The term that is required of an instance.
-fn demand_of(
+pub(crate) fn demand_of(
     alloc: Global,
     terms: &mut Terms,
     instance: &Instance,
     subject: &Subject,
 ) -> Result<TermId, AllocError>
     requires subject { (table : Table) × (IsSubject terms.old table instance.now subject.now) }
-    requires one_size { (t s array size other i j : ℕ) → slice_get terms.old t ≡ Some (Node.Select array size i) → slice_get terms.old s ≡ Some (Node.Select array other j) → size ≡ other }
+    requires widths { (r s i j : ℕ) → subject.now ≡ Subject.Reads r s i j → width terms.old r ≡ width terms.old s }
     ensures demand { IfOk result (λ d. (table : Table) → IsSubject terms.old table instance.now subject.now → IsDemand terms.new table instance.now d) }
     ensures within { IfOk result (λ d. d < length terms.new) }
     ensures grows { Grows terms.old terms.new }
