@@ -3,7 +3,7 @@
 use Rattle.std.proofs.Common.{◌≡◌, ℕ, ◌+◌, ◌<◌, ◌≤◌, ◌++◌, ◌&&◌, Bool, true, false, List, [], ◌∷◌, length, take, drop, reverse, ℤ, Some, Option, refl, sym, ◌∙◌, ap, subst, arith}
 use Rattle.std.specs.Prelude.{slice_get}
 use Rattle.std.specs.List.{All, Contains, list_all, flat_map}
-use Rattle.std.proofs.lemmas.List.{length-append, append_assoc, append-nil}
+use Rattle.std.proofs.lemmas.List.{length-append, append_assoc, append-nil, take-append-drop}
 use Rattle.std.proofs.lemmas.List.Elements.{All-push, Contains-append_left, Contains-push}
 use Rattle.std.proofs.lemmas.List.Folds.{list_all-append}
 use Rattle.std.proofs.lemmas.Grind.{flat_map-append}
@@ -18,13 +18,13 @@ use Rattle.hk_copy.proofs.StepLaws.{grows-refl}
 use Rattle.hk_cnf.specs.Clauses.{clause_value, clauses_value}
 use Rattle.hk_cnf.specs.Circuit.{Circuit}
 use Rattle.hk_cnf.specs.Required.{required_of}
-use Rattle.hk_blast.specs.Blasted.{Words, HasWord, word_in}
+use Rattle.hk_blast.specs.Blasted.{Words, HasWord, word_in, AreBlasted}
 use Rattle.hk_blast.proofs.WordLists.{get_more, has_more}
 use Rattle.hk_inst.specs.declared.instance.Instance.{Instance}
 use Rattle.hk_inst.specs.declared.instance.Instance.TheVariants.{Pair, Tuple}
 use Rattle.hk_inst.specs.declared.subject.Subject.{Subject}
 use Rattle.hk_inst.specs.declared.subject.Subject.TheVariants.{Reads}
-use Rattle.hk_inst.specs.Adding.{IsSubject}
+use Rattle.hk_inst.specs.Adding.{IsSubject, Lengthened}
 use Rattle.hk_inst.specs.Inputs.{Table, is_select, is_quantifier, AreNumbered, IsNumbering}
 use Rattle.hk_inst.specs.Inputs.IsNumbering.{none, step}
 use Rattle.hk_inst.specs.Demanded.{IsDemand}
@@ -32,6 +32,9 @@ use Rattle.hk_inst.specs.Questions.{Asked, AreDemands, says, all_said}
 use Rattle.hk_inst.specs.Growing.{IsOurs, ids_below, IsBase, AreOpened, AreRequired, IsGrowing, IsMade, IsRequiring, AreStepped}
 use Rattle.hk_inst.proofs.Members.{numbered-are, member-at, has-behind}
 use Rattle.hk_inst.proofs.OurDemands.{demand-ours}
+use Rattle.hk_inst.proofs.QuestionFacts.{known-within}
+use Rattle.hk_inst.proofs.Lengthening.{taken}
+use Rattle.hk_inst.proofs.Beginning.{with_numbers}
 use Rattle.hk_inst.proofs.Widening.{IsWider, demand-wider, demands-wider, mentioned-wider, at-longer, at-older}
 use Rattle.hk_inst.proofs.GrowthSteps.{with_nodes, with_made, with_circuit, base-longer, opened-longer, required-longer, base-made, opened-made, required-made, base-requiring}
 
@@ -174,3 +177,64 @@ numbering-push : (nodes : List Node) (kind : Option Node → Bool) {steps : List
 numbering-push nodes kind entries more none a = subst (IsNumbering nodes kind (entries ∷ [])) (append-nil more) (step a none)
 numbering-push nodes kind entries more (step {entries = e} {steps = steps} {first = first} {terms = terms} b rest) a =
     subst (IsNumbering nodes kind (e ∷ (steps ++ entries ∷ []))) (sym (append_assoc first terms more)) (step b (numbering-push nodes kind entries more rest a))
+
+growing-numbered : (q : Asked) (first next done : ℕ) (rs qs : List ℕ) → IsGrowing q first next done → IsGrowing (with_numbers q (q.table.reads ++ rs) (q.table.quantifiers ++ qs)) first next done
+growing-numbered q first next done rs qs h = record {
+  base = record {
+    fit = h.base.fit;
+    distinct = h.base.distinct;
+    goal_is = h.base.goal_is;
+    goal_first = h.base.goal_first;
+    first_next = h.base.first_next;
+    ids = h.base.ids;
+    circuit = h.base.circuit;
+    blasted = h.base.blasted;
+    of_goal = h.base.of_goal;
+    ours = λ t has. record {
+      mentioned = mentioned-wider q.nodes q.nodes q.instances q.instances q.table (with_numbers q (q.table.reads ++ rs) (q.table.quantifiers ++ qs)).table wider q.goal t (h.base.ours t has).mentioned;
+      reads = (h.base.ours t has).reads;
+      frees = (h.base.ours t has).frees;
+    };
+    done_there = h.base.done_there;
+    places = h.base.places;
+    only = h.base.only;
+  };
+  opened = record { opened = h.opened.opened; openings_are = h.opened.openings_are; once = h.opened.once; chosen = h.opened.chosen };
+  required = record {
+    openings_known = h.required.openings_known;
+    demands_known = h.required.demands_known;
+    demands = demands-wider q.nodes q.nodes q.instances q.instances q.table (with_numbers q (q.table.reads ++ rs) (q.table.quantifiers ++ qs)).table wider q.instances q.demands h.required.demands;
+    required = h.required.required;
+    count = h.required.count;
+  };
+}
+  where
+    wider : IsWider q.nodes q.nodes q.instances q.instances q.table (with_numbers q (q.table.reads ++ rs) (q.table.quantifiers ++ qs)).table
+    wider = record { nodes_grow = grows-refl q.nodes; more_instances = λ i c. c; reads = λ k t e. get_more q.table.reads rs k t e; quantifiers = λ k t e. get_more q.table.quantifiers qs k t e; openings = λ o c. c }
+
+-- the step of an instance that came in
+pub stepped-more : (p q : Asked) (i : Instance) (start : ℕ) (rs qs : List ℕ) → AreStepped p → AreBlasted p.nodes p.circuit p.table.words → Lengthened p q → start ≡ length p.table.words → q.table.reads ≡ p.table.reads → q.table.quantifiers ≡ p.table.quantifiers
+    → q.instances ≡ p.instances ++ i ∷ [] → AreNumbered q.nodes is_select (drop start q.table.words) rs → AreNumbered q.nodes is_quantifier (drop start q.table.words) qs → AreStepped (with_numbers q (q.table.reads ++ rs) (q.table.quantifiers ++ qs))
+stepped-more p q i start rs qs s blasted l at reads quantifiers instances a b = record {
+  steps = s.steps ++ drop start q.table.words ∷ [];
+  steps_are = sym
+      (flat_map-append (λ x. x) s.steps (drop start q.table.words ∷ []) ∙ ap (λ x. flat_map (λ y. y) s.steps ++ x) (append-nil (drop start q.table.words)) ∙ ap (λ x. x ++ drop start q.table.words) (sym s.steps_are ∙ sym (taken p.table.words q.table.words start l.words at))
+      ∙ take-append-drop start q.table.words);
+  each_step = omega (arith, length-append s.steps (drop start q.table.words ∷ []), s.each_step, ap length instances, length-append p.instances (i ∷ []));
+  reads = subst (λ xs. IsNumbering q.nodes is_select (s.steps ++ drop start q.table.words ∷ []) (xs ++ rs)) (sym reads)
+      (numbering-push q.nodes is_select (drop start q.table.words) rs (numbering-longer p.nodes q.nodes l.nodes is_select there s.reads) a);
+  quantifiers = subst (λ xs. IsNumbering q.nodes is_quantifier (s.steps ++ drop start q.table.words ∷ []) (xs ++ qs)) (sym quantifiers)
+      (numbering-push q.nodes is_quantifier (drop start q.table.words) qs (numbering-longer p.nodes q.nodes l.nodes is_quantifier there s.quantifiers) b);
+}
+  where
+    there : (t : ℕ) → HasWord (flat_map (λ x. x) s.steps) t → t < length p.nodes
+    there t has = known-within p.nodes p.circuit p.table.words blasted t (subst (λ ws. HasWord ws t) (sym s.steps_are) has)
+
+abbrev pub IsKeptAs : Asked → ℕ → ℕ → Type 0
+IsKeptAs q first next = (IsGrowing q first next (length q.table.words)) × (AreStepped q)
+
+pub kept-more : (p q : Asked) (first next : ℕ) (i : Instance) (start : ℕ) (rs qs reads quantifiers : List ℕ) → AreStepped p → AreBlasted p.nodes p.circuit p.table.words → Lengthened p q → start ≡ length p.table.words → q.table.reads ≡ p.table.reads → q.table.quantifiers ≡ p.table.quantifiers
+    → q.instances ≡ p.instances ++ i ∷ [] → IsGrowing q first next (length q.table.words) → AreNumbered q.nodes is_select (drop start q.table.words) rs → AreNumbered q.nodes is_quantifier (drop start q.table.words) qs
+    → reads ≡ q.table.reads ++ rs → quantifiers ≡ q.table.quantifiers ++ qs → IsKeptAs (with_numbers q reads quantifiers) first next
+kept-more p q first next i start rs qs reads quantifiers s blasted l at same other instances h a b e f =
+    subst (λ (z : List ℕ × List ℕ). IsKeptAs (with_numbers q z.0 z.1) first next) (λ n. (sym e n, sym f n)) (growing-numbered q first next (length q.table.words) rs qs h, stepped-more p q i start rs qs s blasted l at same other instances a b)

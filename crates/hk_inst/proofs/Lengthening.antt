@@ -72,3 +72,23 @@ beside q p h rs qs is ds a b e f = record {
 -- what is cut back to what stood before is that
 pub taken : {X : Type 0} (xs ys : List X) (n : ℕ) → IsLonger xs ys → n ≡ length xs → take n ys ≡ xs
 taken xs ys n h e = ap (λ k. take k ys) e ∙ ap (take (length xs)) h.1 ∙ take-append_seam xs h.0
+
+pub nothing-more : {X : Type 0} (xs ys : List X) → ys ≡ xs → IsLonger xs ys
+nothing-more xs ys e = ([], e ∙ sym (append-nil xs))
+
+pub ahead-added : (q p : Asked) → Lengthened q p → (nodes : List Node) (d : Circuit) (words : Words) (is : List Instance) (ds : List ℕ) → Grows p.nodes nodes → IsFront p.circuit d → IsLonger p.table.words words → IsLonger p.instances is → IsLonger p.demands ds
+    → Lengthened q (record { nodes = nodes; goal = p.goal; circuit = d; table = record { words = words; reads = p.table.reads; quantifiers = p.table.quantifiers; openings = p.table.openings }; instances = is; demands = ds })
+ahead-added q p h nodes d words is ds g f w a b = record {
+  nodes = grows-trans q.nodes p.nodes nodes h.nodes g;
+  goal = h.goal;
+  circuit = IsFront-trans q.circuit p.circuit d h.circuit f;
+  words = longer-trans q.table.words p.table.words words h.words w;
+  reads = h.reads;
+  quantifiers = h.quantifiers;
+  openings = h.openings;
+  instances = longer-trans q.instances p.instances is h.instances a;
+  demands = longer-trans q.demands p.demands ds h.demands b;
+}
+
+pub longer-length : {X : Type 0} (xs ys : List X) (n : ℕ) → IsLonger xs ys → n ≡ length xs → n ≤ length ys
+longer-length xs ys n h e = omega (arith, e, ap length h.1, length-append xs h.0)

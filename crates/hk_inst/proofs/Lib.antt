@@ -23,5 +23,5 @@ pub mod SetNumbers
 pub mod TestedGoals
 pub mod Subjects
 pub mod OurDemands
-pub mod AddedSteps
 pub mod Lengthening
+pub mod AddedSteps

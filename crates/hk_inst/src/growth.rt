@@ -51,6 +51,8 @@ fn place(s: &mut State, done: u64, read: TermId, index: TermId) -> Result<(), Al
     ensures goal { s.new.goal ≡ s.old.goal }
     ensures grows { (front : List Node) → Grows front s.old.terms → Grows front s.new.terms }
     ensures instances { s.new.instances ≡ s.old.instances }
+    ensures reads { s.new.reads.items ≡ s.old.reads.items }
+    ensures quantifiers { s.new.quantifiers.items ≡ s.old.quantifiers.items }
     ensures first { s.new.first ≡ s.old.first }
     ensures front { (q : Asked) → Lengthened q (asked_of s.old) → Lengthened q (asked_of s.new) }
 {
@@ -85,6 +87,8 @@ fn open(
     ensures goal { s.new.goal ≡ s.old.goal }
     ensures grows { (front : List Node) → Grows front s.old.terms → Grows front s.new.terms }
     ensures instances { s.new.instances ≡ s.old.instances }
+    ensures reads { s.new.reads.items ≡ s.old.reads.items }
+    ensures quantifiers { s.new.quantifiers.items ≡ s.old.quantifiers.items }
     ensures first { s.new.first ≡ s.old.first }
     ensures front { (q : Asked) → Lengthened q (asked_of s.old) → Lengthened q (asked_of s.new) }
 {
@@ -106,6 +110,8 @@ fn advance(alloc: Global, s: &mut State, done: u64) -> Result<(), AllocError>
     ensures goal { s.new.goal ≡ s.old.goal }
     ensures grows { (front : List Node) → Grows front s.old.terms → Grows front s.new.terms }
     ensures instances { s.new.instances ≡ s.old.instances }
+    ensures reads { s.new.reads.items ≡ s.old.reads.items }
+    ensures quantifiers { s.new.quantifiers.items ≡ s.old.quantifiers.items }
     ensures first { s.new.first ≡ s.old.first }
     ensures front { (q : Asked) → Lengthened q (asked_of s.old) → Lengthened q (asked_of s.new) }
 {
@@ -125,6 +131,8 @@ pub(crate) fn close(alloc: Global, s: &mut State, start: u64) -> Result<(), Allo
     ensures goal { s.new.goal ≡ s.old.goal }
     ensures grows { (front : List Node) → Grows front s.old.terms → Grows front s.new.terms }
     ensures instances { s.new.instances ≡ s.old.instances }
+    ensures reads { s.new.reads.items ≡ s.old.reads.items }
+    ensures quantifiers { s.new.quantifiers.items ≡ s.old.quantifiers.items }
     ensures first { s.new.first ≡ s.old.first }
     ensures front { (q : Asked) → Lengthened q (asked_of s.old) → Lengthened q (asked_of s.new) }
 {

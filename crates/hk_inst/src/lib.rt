@@ -4,6 +4,7 @@
 //! with a goal, and instances; what goes out is a clause list that is exact for both: `specs/Exactness.antt` says what that is.
 #![tactic(auto)]
 
+mod adding;
 mod completion;
 mod demand;
 mod growth;

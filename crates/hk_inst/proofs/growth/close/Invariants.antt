@@ -13,6 +13,8 @@ invariant-loop-done l = record {
   goal : l.s.goal ≡ l.initial.s.goal;
   grows : (front : List Node) → Grows front l.initial.s.terms → Grows front l.s.terms;
   instances : l.s.instances ≡ l.initial.s.instances;
+  reads : l.s.reads.items ≡ l.initial.s.reads.items;
+  quantifiers : l.s.quantifiers.items ≡ l.initial.s.quantifiers.items;
   first : l.s.first ≡ l.initial.s.first;
   front : (q : Asked) → Lengthened q (asked_of l.initial.s) → Lengthened q (asked_of l.s);
 }
