@@ -6,13 +6,15 @@ use Rattle.hk_term.specs.Shape.{Grows}
 use Rattle.hk_term.specs.declared.node.Node.{Node}
 use Rattle.hk_copy.proofs.StepLaws.{grows-refl}
 use Rattle.hk_cnf.specs.Circuit.{Circuit}
-use Rattle.hk_cnf.specs.Front.{IsFront}
-use Rattle.hk_cnf.proofs.FrontLaws.{IsFront-refl, IsFront-trans}
+use Rattle.hk_cnf.specs.CircuitParts.{IsCircuit}
+use Rattle.hk_cnf.specs.Front.{IsFront, CanCut}
+use Rattle.hk_cnf.proofs.FrontLaws.{IsFront-refl, IsFront-trans, can-cut-at}
 use Rattle.hk_blast.specs.Blasted.{Words, Lengthens}
 use Rattle.hk_inst.specs.declared.instance.Instance.{Instance}
 use Rattle.hk_inst.specs.declared.opening.Opening.{Opening}
 use Rattle.hk_inst.specs.Questions.{Asked}
-use Rattle.hk_inst.specs.Adding.{IsLonger, Lengthened}
+use Rattle.hk_inst.specs.declared.undo.Sizes.{Sizes}
+use Rattle.hk_inst.specs.Adding.{IsLonger, Lengthened, AreSizes, WasSized}
 
 pub longer-refl : {X : Type 0} (xs : List X) → IsLonger xs xs
 longer-refl xs = ([], sym (append-nil xs))
@@ -92,3 +94,25 @@ ahead-added q p h nodes d words is ds g f w a b = record {
 
 pub longer-length : {X : Type 0} (xs ys : List X) (n : ℕ) → IsLonger xs ys → n ≡ length xs → n ≤ length ys
 longer-length xs ys n h e = omega (arith, e, ap length h.1, length-append xs h.0)
+
+-- what stood before, part by part
+pub cut-back : (q p : Asked) (next : ℕ) (z : Sizes) → Lengthened q p → AreSizes q next z → (nodes : List Node) (d : Circuit) (words : Words) (rs qs : List ℕ) (os : List Opening) (is : List Instance) (ds : List ℕ) → nodes ≡ take z.terms p.nodes
+    → ((c : Circuit) → IsFront c p.circuit → z.gates.vars ≡ c.vars → z.gates.clauses ≡ length c.clauses → z.gates.gates ≡ length c.gates → d ≡ c)
+    → words ≡ take z.bits p.table.words → rs ≡ take z.reads p.table.reads → qs ≡ take z.quantifiers p.table.quantifiers → os ≡ take z.openings p.table.openings → is ≡ take z.instances p.instances → ds ≡ take z.demands p.demands
+    → ◌≡◌ {A = Asked} (record { nodes = nodes; goal = p.goal; circuit = d; table = record { words = words; reads = rs; quantifiers = qs; openings = os }; instances = is; demands = ds }) q
+cut-back q p next z l s nodes d words rs qs os is ds a b c e f g h k = λ n. record {
+  nodes = (a ∙ taken q.nodes p.nodes z.terms (l.nodes.more, l.nodes.is) s.terms) n;
+  goal = l.goal n;
+  circuit = b q.circuit l.circuit s.vars s.clauses s.gates n;
+  table = record {
+    words = (c ∙ taken q.table.words p.table.words z.bits l.words s.bits) n;
+    reads = (e ∙ taken q.table.reads p.table.reads z.reads l.reads s.reads) n;
+    quantifiers = (f ∙ taken q.table.quantifiers p.table.quantifiers z.quantifiers l.quantifiers s.quantifiers) n;
+    openings = (g ∙ taken q.table.openings p.table.openings z.openings l.openings s.openings) n;
+  };
+  instances = (h ∙ taken q.instances p.instances z.instances l.instances s.instances) n;
+  demands = (k ∙ taken q.demands p.demands z.demands l.demands s.demands) n;
+}
+
+pub can-cut-back : (p : Asked) (z : Sizes) → WasSized p z → IsCircuit p.circuit → CanCut z.gates.vars z.gates.clauses z.gates.gates p.circuit
+can-cut-back p z w h = can-cut-at w.before.circuit p.circuit z.gates.vars z.gates.clauses z.gates.gates w.circuit h w.front.circuit w.sizes.vars w.sizes.clauses w.sizes.gates

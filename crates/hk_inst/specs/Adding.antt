@@ -1,8 +1,10 @@
 -- What a call that adds an instance tells: what the instance speaks of, when it is refused, and that nothing of what stood before is lost.
-use Rattle.std.specs.Prelude.{◌≡◌, ℕ, ◌++◌, List}
+use Rattle.std.specs.Prelude.{◌≡◌, ℕ, ◌++◌, List, length}
 use Rattle.hk_term.specs.Shape.{Grows}
 use Rattle.hk_term.specs.declared.node.Node.{Node}
+use Rattle.hk_cnf.specs.CircuitParts.{IsCircuit}
 use Rattle.hk_cnf.specs.Front.{IsFront}
+use Rattle.hk_inst.specs.declared.undo.Sizes.{Sizes}
 use Rattle.hk_inst.specs.declared.instance.Instance.{Instance}
 use Rattle.hk_inst.specs.declared.instance.Instance.TheVariants.{Pair, Tuple}
 use Rattle.hk_inst.specs.declared.subject.AddFault.{AddFault}
@@ -41,3 +43,25 @@ pub record Lengthened (old new : Asked) : Type 0 where
   pub openings : IsLonger old.table.openings new.table.openings
   pub instances : IsLonger old.instances new.instances
   pub demands : IsLonger old.demands new.demands
+
+-- so much of each kind was there
+pub record AreSizes (q : Asked) (next : ℕ) (z : Sizes) : Type 0 where
+  pub terms : z.terms ≡ length q.nodes
+  pub vars : z.gates.vars ≡ q.circuit.vars
+  pub clauses : z.gates.clauses ≡ length q.circuit.clauses
+  pub gates : z.gates.gates ≡ length q.circuit.gates
+  pub bits : z.bits ≡ length q.table.words
+  pub reads : z.reads ≡ length q.table.reads
+  pub quantifiers : z.quantifiers ≡ length q.table.quantifiers
+  pub openings : z.openings ≡ length q.table.openings
+  pub instances : z.instances ≡ length q.instances
+  pub demands : z.demands ≡ length q.demands
+  pub next_is : z.next ≡ next
+
+-- so much of each kind was there of what now stands at the front
+pub record WasSized (now : Asked) (z : Sizes) : Type 0 where
+  pub before : Asked
+  pub next : ℕ
+  pub circuit : IsCircuit before.circuit
+  pub front : Lengthened before now
+  pub sizes : AreSizes before next z

@@ -18,6 +18,7 @@ mod required;
 mod start;
 mod state;
 mod subject;
+mod undo;
 
 pub use instance::{Instance, InstanceList, SizeList};
 pub use question::Question;
