@@ -1,8 +1,8 @@
 -- The steps in which an instance is added: it is one of the instances, its required term is blasted and required, and the terms that came in
 -- have their numbers.
-use Rattle.std.proofs.Common.{◌≡◌, ℕ, ◌+◌, ◌<◌, ◌≤◌, ◌++◌, ◌&&◌, Bool, true, false, List, [], ◌∷◌, length, take, drop, reverse, ℤ, Some, Option, refl, sym, ◌∙◌, ap, subst, arith}
+use Rattle.std.proofs.Common.{◌≡◌, ℕ, ◌<◌, ◌++◌, ◌&&◌, Bool, true, false, List, [], ◌∷◌, length, drop, reverse, Some, Option, refl, sym, ◌∙◌, ap, subst, arith}
 use Rattle.std.specs.Prelude.{slice_get}
-use Rattle.std.specs.List.{All, Contains, list_all, flat_map}
+use Rattle.std.specs.List.{list_all, flat_map}
 use Rattle.std.proofs.lemmas.List.{length-append, append_assoc, append-nil, take-append-drop}
 use Rattle.std.proofs.lemmas.List.Elements.{All-push, Contains-append_left, Contains-push}
 use Rattle.std.proofs.lemmas.List.Folds.{list_all-append}
@@ -28,14 +28,14 @@ use Rattle.hk_inst.specs.Adding.{IsSubject, Lengthened}
 use Rattle.hk_inst.specs.Inputs.{Table, is_select, is_quantifier, AreNumbered, IsNumbering}
 use Rattle.hk_inst.specs.Inputs.IsNumbering.{none, step}
 use Rattle.hk_inst.specs.Demanded.{IsDemand}
-use Rattle.hk_inst.specs.Questions.{Asked, AreDemands, says, all_said}
+use Rattle.hk_inst.specs.Questions.{Asked, AreDemands, says}
 use Rattle.hk_inst.specs.Growing.{IsOurs, ids_below, IsBase, AreOpened, AreRequired, IsGrowing, IsMade, IsRequiring, AreStepped}
 use Rattle.hk_inst.proofs.Members.{numbered-are, member-at, has-behind}
 use Rattle.hk_inst.proofs.OurDemands.{demand-ours}
 use Rattle.hk_inst.proofs.QuestionFacts.{known-within}
 use Rattle.hk_inst.proofs.Lengthening.{taken}
 use Rattle.hk_inst.proofs.Beginning.{with_numbers}
-use Rattle.hk_inst.proofs.Widening.{IsWider, demand-wider, demands-wider, mentioned-wider, at-longer, at-older}
+use Rattle.hk_inst.proofs.Widening.{IsWider, demand-wider, demands-wider, mentioned-wider}
 use Rattle.hk_inst.proofs.GrowthSteps.{with_nodes, with_made, with_circuit, base-longer, opened-longer, required-longer, base-made, opened-made, required-made, base-requiring}
 
 abbrev pub with_instance : Asked → Instance → Asked

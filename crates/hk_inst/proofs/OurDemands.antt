@@ -4,9 +4,9 @@ use Rattle.std.specs.Prelude.{slice_get}
 use Rattle.std.specs.List.{Contains}
 use Rattle.hk_term.specs.declared.bounds.Bound.{Bound}
 use Rattle.hk_term.specs.declared.node.Node.{Node}
-use Rattle.hk_term.specs.declared.node.Node.TheVariants.{Const, Select, Binary, Choose, Resize, ForAll}
+use Rattle.hk_term.specs.declared.node.Node.TheVariants.{Const, Select, Choose, ForAll}
 use Rattle.hk_copy.specs.declared.stand.Stand.TheVariants.{Number}
-use Rattle.hk_copy.specs.Stands.{is_bound, standing}
+use Rattle.hk_copy.specs.Stands.{standing}
 use Rattle.hk_copy.specs.Copies.{Copies}
 use Rattle.hk_copy.specs.Reach.{IsAsked, IsVariable, binds, Reads, Frees, IsFreed, IsPart as IsReached}
 use Rattle.hk_copy.specs.Reach.Reaches.{under}
@@ -15,7 +15,7 @@ use Rattle.hk_copy.proofs.ReachLaws.{copies-reach, copies-free}
 use Rattle.hk_inst.specs.declared.instance.Instance.{Instance}
 use Rattle.hk_inst.specs.declared.instance.Instance.TheVariants.{Pair, Tuple}
 use Rattle.hk_inst.specs.Inputs.{Table}
-use Rattle.hk_inst.specs.Truths.{IsTuple, PairOf, TupleOf}
+use Rattle.hk_inst.specs.Truths.{IsTuple}
 use Rattle.hk_inst.specs.Demanded.{IsAgreement, IsImplication, IsDemand}
 use Rattle.hk_inst.specs.Demanded.IsMentioned.{added as its_added}
 use Rattle.hk_inst.specs.Growing.{IsOurs}

@@ -30,19 +30,25 @@ use Rattle.hk_inst.proofs.Widening.{IsWider, pair-wider, tuple-wider}
 
 pub pair-subject : (nodes : List Node) (table : Table) (a b r s i j array other size more : ℕ) → slice_get table.reads a ≡ Some r → slice_get table.reads b ≡ Some s → slice_get nodes r ≡ Some (Select array size i)
     → slice_get nodes s ≡ Some (Select other more j) → array ≡ other → IsSubject nodes table (Pair a b) (Reads r s i j)
-pair-subject nodes table a b r s i j array other size more at there is it same = (record {
-  array = array;
-  first = r;
-  size = size;
-  place = i;
-  second = s;
-  other_size = more;
-  other_place = j;
-  first_at = at;
-  second_at = there;
-  first_is = is;
-  second_is = it ∙ ap (λ x. Some (Select x more j)) (sym same);
-}, refl, refl, refl, refl)
+pair-subject nodes table a b r s i j array other size more at there is it same = (
+  record {
+    array = array;
+    first = r;
+    size = size;
+    place = i;
+    second = s;
+    other_size = more;
+    other_place = j;
+    first_at = at;
+    second_at = there;
+    first_is = is;
+    second_is = it ∙ ap (λ x. Some (Select x more j)) (sym same);
+  },
+  refl,
+  refl,
+  refl,
+  refl,
+)
 
 pub tuple-subject : (nodes : List Node) (table : Table) (k : ℕ) (ks : List ℕ) (t : ℕ) (bound : List Bound) (inner : ℕ) → slice_get table.quantifiers k ≡ Some t → slice_get nodes t ≡ Some (ForAll bound inner) → IsTuple bound ks → IsSubject nodes table (Tuple k ks) (Quantifier t bound inner)
 tuple-subject nodes table k ks t bound inner at is fits = (record { term = t; bound = bound; body = inner; at = at; is = is; fits = fits }, refl, refl, refl)
@@ -112,9 +118,10 @@ pair-demand {E = E} result nodes longer i x a b r s j k is it g made =
     subst (λ (z : Instance × Subject). IfOk result (λ d. (table : Table) → IsSubject nodes table z.0 z.1 → IsDemand longer table z.0 d)) (λ n. (sym is n, sym it n)) (by result made)
   where
     by : (out : Result ℕ E) → IfOk out (IsAgreement longer r s j k) → IfOk out (λ d. (table : Table) → IsSubject nodes table (Pair a b) (Reads r s j k) → IsDemand longer table (Pair a b) d)
-    by (Ok d) m = λ table h.
-        (pair-wider nodes longer [] [] table table (same-table nodes longer table g) a b h.0,
-        subst (λ (z : ℕ × ℕ × ℕ × ℕ). IsAgreement longer z.0 z.1 z.2 z.3 d) (λ n. (sym h.1 n, sym h.2 n, sym h.3 n, sym h.4 n)) m)
+    by (Ok d) m = λ table h. (
+      pair-wider nodes longer [] [] table table (same-table nodes longer table g) a b h.0,
+      subst (λ (z : ℕ × ℕ × ℕ × ℕ). IsAgreement longer z.0 z.1 z.2 z.3 d) (λ n. (sym h.1 n, sym h.2 n, sym h.3 n, sym h.4 n)) m,
+    )
     by (Err e) m = m
 
 pub tuple-demand : {E : Type 0} (result : Result ℕ E) (nodes longer : List Node) (i : Instance) (x : Subject) (q : ℕ) (ks : List ℕ) (t : ℕ) (bound : List Bound) (inner : ℕ) → i ≡ Tuple q ks → x ≡ Quantifier t bound inner → Grows nodes longer
@@ -126,9 +133,10 @@ tuple-demand {E = E} result nodes longer i x q ks t bound inner is it g made =
   where
     by : (out : Result ℕ E) → IfOk out (λ d. (b : ℕ) × (Copies longer (standing bound (map Number ks)) inner b) × (IsImplication longer t b d))
         → IfOk out (λ d. (table : Table) → IsSubject nodes table (Tuple q ks) (Quantifier t bound inner) → IsDemand longer table (Tuple q ks) d)
-    by (Ok d) m = λ table h.
-        (tuple-wider nodes longer [] [] table table (same-table nodes longer table g) q ks h.0,
-        m.0,
-        subst (λ (z : List Bound × ℕ). Copies longer (standing z.0 (map Number ks)) z.1 m.0) (λ n. (sym h.2 n, sym h.3 n)) m.1,
-        subst (λ z. IsImplication longer z m.0 d) (sym h.1) m.2)
+    by (Ok d) m = λ table h. (
+      tuple-wider nodes longer [] [] table table (same-table nodes longer table g) q ks h.0,
+      m.0,
+      subst (λ (z : List Bound × ℕ). Copies longer (standing z.0 (map Number ks)) z.1 m.0) (λ n. (sym h.2 n, sym h.3 n)) m.1,
+      subst (λ z. IsImplication longer z m.0 d) (sym h.1) m.2,
+    )
     by (Err e) m = m

@@ -112,7 +112,14 @@ pub(crate) fn demand_of(
         },
         Instance::Tuple { indices, .. } => match subject {
             Subject::Quantifier(term, bound, body) => {
-                tuple_demand(alloc, terms, *term, bound.as_slice(), *body, indices.as_slice())
+                tuple_demand(
+                    alloc,
+                    terms,
+                    *term,
+                    bound.as_slice(),
+                    *body,
+                    indices.as_slice(),
+                )
             }
             Subject::Reads(..) => unreachable!(),
         },

@@ -127,7 +127,11 @@ fn quantifier_of(node: &Node) -> Option<(&BoundList, TermId)>
 }
 
 // The quantifier of a number.
-fn quantifier_at<'a>(terms: &'a Terms, quantifiers: &[u64], k: u64) -> Option<(TermId, &'a BoundList, TermId)>
+fn quantifier_at<'a>(
+    terms: &'a Terms,
+    quantifiers: &[u64],
+    k: u64,
+) -> Option<(TermId, &'a BoundList, TermId)>
     requires within { All (λ t. t < length terms.now) quantifiers.now }
     ensures some { IfSome result (λ r. (slice_get quantifiers.now k ≡ Some r.0) × (slice_get terms.now r.0 ≡ Some (Node.ForAll r.1.now r.2))) }
     ensures none { IfNone result ((t : ℕ) (bound : List Bound) (body : ℕ) → slice_get quantifiers.now k ≡ Some t → slice_get terms.now t ≡ Some (Node.ForAll bound body) → ⊥) }

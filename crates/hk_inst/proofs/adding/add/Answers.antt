@@ -1,4 +1,4 @@
-use Rattle.std.proofs.Common.{◌≡◌, ◌∙◌, sym, subst}
+use Rattle.std.proofs.Common.{◌∙◌, sym, subst}
 use Rattle.hk_inst.specs.States.{asked_of}
 use Rattle.hk_inst.specs.Adding.{Lengthened}
 use Rattle.hk_inst.proofs.Lengthening.{lengthened-refl}

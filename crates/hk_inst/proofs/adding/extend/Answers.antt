@@ -1,7 +1,5 @@
-use Rattle.std.proofs.Common.{◌≤◌, ◌++◌, ◌∙◌, sym, ap, arith, length, ◌∷◌, []}
-use Rattle.std.proofs.lemmas.List.{length-append}
+use Rattle.std.proofs.Common.{◌++◌, ◌∙◌, ap}
 use Rattle.hk_inst.specs.States.{asked_of}
-use Rattle.hk_inst.specs.Adding.{Lengthened}
 use Rattle.hk_inst.proofs.QuestionFacts.{known-within}
 use Rattle.hk_inst.proofs.Beginning.{reads-numbered, quantifiers-numbered}
 use Rattle.hk_inst.proofs.Lengthening.{lengthened-refl, longer-refl, nothing-more, beside, longer-length}

@@ -1,4 +1,3 @@
-use Rattle.std.proofs.Common.{◌∙◌, ◌++◌, ◌∷◌, [], ap}
 use Rattle.hk_inst.proofs.Subjects.{numbers-step}
 use Rattle.hk_inst.proofs.demand.+push_numbers.Goals as goal
 
