@@ -1,5 +1,5 @@
 -- The terms of a kind that a table has, while its entries are gone through.
-use Rattle.std.proofs.Common.{◌≡◌, ◌⊎◌, inl, inr, ℕ, ◌+◌, ◌++◌, Bool, true, false, cond, List, [], ◌∷◌, take, ℤ, Some, sym, ◌∙◌, ap, subst}
+use Rattle.std.proofs.Common.{◌≡◌, ◌⊎◌, inl, inr, ℕ, ◌+◌, ◌++◌, Bool, true, false, cond, List, [], ◌∷◌, take, drop, zero, suc, refl, ℤ, Some, sym, ◌∙◌, ap, subst, arith}
 use Rattle.std.specs.Prelude.{slice_get, Option}
 use Rattle.std.specs.List.{Contains}
 use Rattle.std.proofs.lemmas.List.Elements.{Contains-append_left, Contains-push, Contains-push_cases}
@@ -9,6 +9,13 @@ use Rattle.hk_blast.proofs.WordLists.{has_more}
 use Rattle.hk_inst.proofs.Tuples.{clash}
 use Rattle.hk_inst.proofs.Members.{has-head, has-behind}
 use Rattle.hk_inst.proofs.GrowthSteps.{next-entry, next-cases}
+
+pub slice-drop : {X : Type 0} (xs : List X) (n k : ℕ) → slice_get (drop n xs) k ≡ slice_get xs (n + k)
+slice-drop xs zero k = ap (slice_get xs) (omega arith)
+slice-drop [] (suc n) k = refl
+slice-drop (x ∷ xs) (suc n) k =
+    let e : suc (n + k) ≡ suc n + k = omega arith in
+    slice-drop xs n k ∙ ap (slice_get (x ∷ xs)) e
 
 module _ (nodes : List Node) (kind : Option Node → Bool) (words : Words) where
   pub record IsFound (i : ℕ) (items : List ℕ) : Type 0 where

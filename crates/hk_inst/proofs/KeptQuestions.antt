@@ -1,17 +1,20 @@
 -- What a question keeps is exact, as contracts see it.
-use Rattle.std.proofs.Common.{◌≡◌, ◌<◌, Bool, true, false, nat_eq, List, length, sym, subst, get_or}
+use Rattle.std.proofs.Common.{◌≡◌, ℕ, ◌∙◌, ap, ◌<◌, Bool, true, false, nat_eq, List, length, sym, subst, get_or}
 use Rattle.std.specs.List.{All}
 use Rattle.std.proofs.lemmas.List.Elements.{Contains-get_or}
 use Rattle.hk_term.specs.Meaning.{Reading, value}
 use Rattle.hk_cnf.specs.Clauses.{Clauses, clauses_value}
 use Rattle.hk_inst.specs.declared.state.State.{State}
 use Rattle.hk_inst.specs.declared.instance.Instance.{Instance}
-use Rattle.hk_inst.specs.Inputs.{number_in, completed, is_select}
+use Rattle.hk_inst.specs.Inputs.{number_in, completed, is_select, is_quantifier}
 use Rattle.hk_inst.specs.Truths.{IsTrue, is_among}
 use Rattle.hk_inst.specs.Exactness.{Exact}
 use Rattle.hk_inst.specs.Questions.{Asked}
+use Rattle.hk_inst.specs.Growing.{IsGrowing, AreStepped}
+use Rattle.hk_inst.specs.Adding.{Lengthened}
 use Rattle.hk_inst.specs.States.{asked_of, IsKept}
 use Rattle.hk_blast.specs.Blasted.{HasWord}
+use Rattle.hk_copy.proofs.StepLaws.{longer-value}
 use Rattle.hk_inst.proofs.Members.{numbered-are}
 use Rattle.hk_inst.proofs.QuestionFacts.{known-within}
 use Rattle.hk_inst.proofs.Beginning.{question-of}
@@ -42,3 +45,31 @@ pub reads-within : (s : State) → IsKept s → All (λ t. t < length s.terms) s
 reads-within s k n d l =
     known-within s.terms s.gates s.bits k.growing.base.blasted (get_or s.reads.items n d)
     (subst (λ ws. HasWord ws (get_or s.reads.items n d)) (sym k.stepped.steps_are) (numbered-are s.terms is_select k.stepped.reads (get_or s.reads.items n d) (Contains-get_or s.reads.items n d l)))
+
+-- so are its quantifiers
+pub quantifiers-within : (s : State) → IsKept s → All (λ t. t < length s.terms) s.quantifiers.items
+quantifiers-within s k n d l =
+    known-within s.terms s.gates s.bits k.growing.base.blasted (get_or s.quantifiers.items n d)
+    (subst (λ ws. HasWord ws (get_or s.quantifiers.items n d)) (sym k.stepped.steps_are) (numbered-are s.terms is_quantifier k.stepped.quantifiers (get_or s.quantifiers.items n d) (Contains-get_or s.quantifiers.items n d l)))
+
+abbrev KeptAs : Asked → ℕ → ℕ → Type 0
+KeptAs q first next = (IsGrowing q first next (length q.table.words)) × (AreStepped q)
+
+-- what is cut back is kept as before
+pub kept-back : (s t : State) → asked_of t ≡ asked_of s → t.first ≡ s.first → t.next ≡ s.next → IsKept s → IsKept t
+kept-back s t e f g k =
+    let r : KeptAs (asked_of t) t.first t.next = subst (λ (z : Asked × ℕ × ℕ). KeptAs z.0 z.1 z.2) (λ n. (sym e n, sym f n, sym g n)) (k.growing, k.stepped) in
+    record { growing = r.0; stepped = r.1 }
+
+-- a longer question asks the same
+pub same-goal : (p q : Asked) → Lengthened p q → p.goal < length p.nodes → (v : Reading) → value q.nodes q.goal v ≡ value p.nodes p.goal v
+same-goal p q l h v = ap (λ g. value q.nodes g v) l.goal ∙ longer-value p.nodes q.nodes l.nodes p.goal h v
+
+pub goal-within : (s : State) → IsKept s → s.goal < length s.terms
+goal-within s k = known-within s.terms s.gates s.bits k.growing.base.blasted s.goal k.growing.base.of_goal
+
+-- and its clauses are exact for what was asked before
+pub longer-exact : (p : Asked) (t : State) → Lengthened p (asked_of t) → p.goal < length p.nodes → IsKept t → Exact (λ v. nat_eq (value p.nodes p.goal v) 1) t.instances (record { vars = t.gates.vars; clauses = t.gates.clauses })
+longer-exact p t l h k =
+    subst (λ (f : Reading → Bool). Exact f t.instances (record { vars = t.gates.vars; clauses = t.gates.clauses })) (λ n. λ v. nat_eq (same-goal p (asked_of t) l h v n) 1)
+    (exact (asked_of t) (question-of (asked_of t) t.first t.next k.growing k.stepped))

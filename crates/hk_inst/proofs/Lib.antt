@@ -21,3 +21,7 @@ pub mod Beginning
 pub mod KeptQuestions
 pub mod SetNumbers
 pub mod TestedGoals
+pub mod Subjects
+pub mod OurDemands
+pub mod Lengthening
+pub mod AddedSteps

@@ -194,7 +194,7 @@ standing-all P [] ss env all h = all
 standing-all P (b ∷ bs) [] env all h = all
 standing-all P (b ∷ bs) (s ∷ ss) env all h = standing-all P bs ss ((b.id, s) ∷ env) (All-cons (λ e. P e.1) (b.id, s) env (All-head P s ss h) all) (All-tail P s ss h)
 
-not-bound : (bs : List Bound) (ss : List Stand) (env : Stands) (id : ℕ) → length bs ≡ length ss → lookup (nat_eq id) (standing_on bs ss env) ≡ None → (is_bound bs id ≡ false) × (lookup (nat_eq id) env ≡ None)
+pub not-bound : (bs : List Bound) (ss : List Stand) (env : Stands) (id : ℕ) → length bs ≡ length ss → lookup (nat_eq id) (standing_on bs ss env) ≡ None → (is_bound bs id ≡ false) × (lookup (nat_eq id) env ≡ None)
 not-bound [] ss env id l e = (refl, e)
 not-bound (b ∷ bs) [] env id l e = absurd (omega (arith, l))
 not-bound (b ∷ bs) (s ∷ ss) env id l e = by (nat_eq id b.id) refl (not-bound bs ss ((b.id, s) ∷ env) id (omega (arith, l)) e)

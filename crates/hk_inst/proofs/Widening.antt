@@ -107,7 +107,7 @@ pub record IsWider (nodes longer : List Node) (instances more : List Instance) (
   pub openings : (o : Opening) → Contains table.openings o → Contains wider.openings o
 
 module _ (nodes longer : List Node) (instances more : List Instance) (table wider : Table) (w : IsWider nodes longer instances more table wider) where
-  pair-wider : (a b : ℕ) → PairOf nodes table a b → PairOf longer wider a b
+  unfoldable pub pair-wider : (a b : ℕ) → PairOf nodes table a b → PairOf longer wider a b
   pair-wider a b p = record {
     array = p.array;
     first = p.first;
@@ -122,7 +122,7 @@ module _ (nodes longer : List Node) (instances more : List Instance) (table wide
     second_is = at-longer nodes longer w.nodes_grow p.second _ p.second_is;
   }
 
-  tuple-wider : (k : ℕ) (ks : List ℕ) → TupleOf nodes table k ks → TupleOf longer wider k ks
+  unfoldable pub tuple-wider : (k : ℕ) (ks : List ℕ) → TupleOf nodes table k ks → TupleOf longer wider k ks
   tuple-wider k ks p = record {
     term = p.term;
     bound = p.bound;

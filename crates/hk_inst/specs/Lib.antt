@@ -1,5 +1,6 @@
 pub mod Inputs
 pub mod Truths
+pub mod Adding
 pub mod Demanded
 pub mod Exactness
 pub mod Questions

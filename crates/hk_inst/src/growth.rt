@@ -4,7 +4,9 @@ ghost use Rattle.std.specs.Prelude.{◌≡◌, ℕ, ◌+◌, ◌<◌, ◌≤◌,
 ghost use Rattle.hk_term.specs.Shape.{Grows};
 ghost use Rattle.hk_term.specs.declared.node.Node.{Node};
 ghost use Rattle.hk_blast.specs.Blasted.{HasWord};
+ghost use Rattle.hk_inst.specs.Questions.{Asked};
 ghost use Rattle.hk_inst.specs.Growing.{IsGrowing};
+ghost use Rattle.hk_inst.specs.Adding.{Lengthened};
 ghost use Rattle.hk_inst.specs.States.{asked_of, IsTask};
 
 use crate::prepare::prepare;
@@ -49,6 +51,10 @@ fn place(s: &mut State, done: u64, read: TermId, index: TermId) -> Result<(), Al
     ensures goal { s.new.goal ≡ s.old.goal }
     ensures grows { (front : List Node) → Grows front s.old.terms → Grows front s.new.terms }
     ensures instances { s.new.instances ≡ s.old.instances }
+    ensures reads { s.new.reads.items ≡ s.old.reads.items }
+    ensures quantifiers { s.new.quantifiers.items ≡ s.old.quantifiers.items }
+    ensures first { s.new.first ≡ s.old.first }
+    ensures front { (q : Asked) → Lengthened q (asked_of s.old) → Lengthened q (asked_of s.new) }
 {
     s.terms.node(read);
     let made = make(&s.terms, index, &mut s.gates, &mut s.bits);
@@ -81,6 +87,10 @@ fn open(
     ensures goal { s.new.goal ≡ s.old.goal }
     ensures grows { (front : List Node) → Grows front s.old.terms → Grows front s.new.terms }
     ensures instances { s.new.instances ≡ s.old.instances }
+    ensures reads { s.new.reads.items ≡ s.old.reads.items }
+    ensures quantifiers { s.new.quantifiers.items ≡ s.old.quantifiers.items }
+    ensures first { s.new.first ≡ s.old.first }
+    ensures front { (q : Asked) → Lengthened q (asked_of s.old) → Lengthened q (asked_of s.new) }
 {
     let bound = bound.as_slice();
     let next = behind(s.next, bound.len())?;
@@ -100,6 +110,10 @@ fn advance(alloc: Global, s: &mut State, done: u64) -> Result<(), AllocError>
     ensures goal { s.new.goal ≡ s.old.goal }
     ensures grows { (front : List Node) → Grows front s.old.terms → Grows front s.new.terms }
     ensures instances { s.new.instances ≡ s.old.instances }
+    ensures reads { s.new.reads.items ≡ s.old.reads.items }
+    ensures quantifiers { s.new.quantifiers.items ≡ s.old.quantifiers.items }
+    ensures first { s.new.first ≡ s.old.first }
+    ensures front { (q : Asked) → Lengthened q (asked_of s.old) → Lengthened q (asked_of s.new) }
 {
     let t = s.bits.at(done);
     match task_for(alloc, &s.terms, t)? {
@@ -117,6 +131,10 @@ pub(crate) fn close(alloc: Global, s: &mut State, start: u64) -> Result<(), Allo
     ensures goal { s.new.goal ≡ s.old.goal }
     ensures grows { (front : List Node) → Grows front s.old.terms → Grows front s.new.terms }
     ensures instances { s.new.instances ≡ s.old.instances }
+    ensures reads { s.new.reads.items ≡ s.old.reads.items }
+    ensures quantifiers { s.new.quantifiers.items ≡ s.old.quantifiers.items }
+    ensures first { s.new.first ≡ s.old.first }
+    ensures front { (q : Asked) → Lengthened q (asked_of s.old) → Lengthened q (asked_of s.new) }
 {
     for done in start..u64::MAX {
         if done >= s.bits.len() {

@@ -1,8 +1,9 @@
 //! Instances: what is known of reads and quantifiers beside their bits.
 
-ghost use Rattle.std.specs.Prelude.{◌≡◌, []};
+ghost use Rattle.std.specs.Prelude.{◌≡◌, ◌++◌, ◌∷◌, [], take, OnOk, OnErr};
+ghost use Rattle.hk_inst.specs.Truths.{same_instance, is_among};
 
-use std::alloc::Global;
+use std::alloc::{AllocError, Global};
 use std::marker::Model;
 
 /// A tuple of numbers, one for each bound variable of a quantifier, the outermost first. A contract sees a list.
@@ -17,6 +18,22 @@ impl Model for SizeList {
     ghost Value = { List ℕ };
 
     ghost view = { λ l. l.items.items };
+}
+
+impl SizeList {
+    /// These numbers.
+    pub fn from_vec(items: Vec<u64>) -> SizeList
+        ensures { result ≡ items.items }
+    {
+        SizeList { items }
+    }
+
+    /// The numbers, lent.
+    pub fn as_slice(&self) -> &[u64]
+        ensures { result.now ≡ self.now }
+    {
+        self.items.as_slice()
+    }
 }
 
 /// A fact that holds of each reading, over the numbers of reads and quantifiers.
@@ -43,6 +60,39 @@ impl Model for InstanceList {
     ghost view = { λ l. l.items.items };
 }
 
+// Whether two instances are the same.
+fn same(i: &Instance, j: &Instance) -> bool
+    ensures { result ≡ same_instance i.now j.now }
+{
+    match i {
+        Instance::Pair { a, b } => match j {
+            Instance::Pair { a: c, b: d } => a == c && b == d,
+            Instance::Tuple { .. } => false,
+        },
+        Instance::Tuple {
+            quantifier,
+            indices,
+        } => match j {
+            Instance::Pair { .. } => false,
+            Instance::Tuple {
+                quantifier: other,
+                indices: others,
+            } => quantifier == other && indices.as_slice() == others.as_slice(),
+        },
+    }
+}
+
+fn is_among(instances: &[Instance], i: &Instance) -> bool
+    ensures { result ≡ is_among instances.now i.now }
+{
+    for j in instances {
+        if same(i, j) {
+            return true;
+        }
+    }
+    false
+}
+
 impl InstanceList {
     /// No instance. It takes no memory.
     pub fn new(alloc: Global) -> InstanceList
@@ -51,6 +101,29 @@ impl InstanceList {
         InstanceList {
             items: Vec::new(alloc),
         }
+    }
+
+    // Whether an instance is among these. Each of them is looked at.
+    pub(crate) fn contains(&self, i: &Instance) -> bool
+        ensures { result ≡ is_among self.now i.now }
+    {
+        is_among(self.items.as_slice(), i)
+    }
+
+    // Puts an instance behind the others.
+    pub(crate) fn push(&mut self, i: Instance) -> Result<(), AllocError>
+        ensures ok { OnOk result (self.new ≡ self.old ++ i ∷ []) }
+        ensures err { OnErr result (self.new ≡ self.old) }
+    {
+        self.items.push(i)?;
+        Ok(())
+    }
+
+    // Keeps the first ones alone.
+    pub(crate) fn truncate(&mut self, len: usize)
+        ensures { self.new ≡ take len self.old }
+    {
+        self.items.truncate(len);
     }
 
     /// The instances, lent.

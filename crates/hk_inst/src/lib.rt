@@ -4,7 +4,9 @@
 //! with a goal, and instances; what goes out is a clause list that is exact for both: `specs/Exactness.antt` says what that is.
 #![tactic(auto)]
 
+mod adding;
 mod completion;
+mod demand;
 mod growth;
 mod instance;
 pub mod laws;
@@ -15,9 +17,12 @@ mod question;
 mod required;
 mod start;
 mod state;
+mod subject;
+mod undo;
 
 pub use instance::{Instance, InstanceList, SizeList};
 pub use question::Question;
+pub use subject::AddFault;
 
 #[cfg(test)]
 mod tests;

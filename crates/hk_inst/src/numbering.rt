@@ -1,6 +1,6 @@
 //! The numbers of reads and quantifiers: the order of the list of terms.
 
-ghost use Rattle.std.specs.Prelude.{◌≡◌, ℕ, ◌<◌, ◌++◌, ◌∷◌, [], if◌then◌else◌, true, length, slice_get, IfOk, OnOk, Contains};
+ghost use Rattle.std.specs.Prelude.{◌≡◌, ℕ, ◌<◌, ◌≤◌, drop, ◌++◌, ◌∷◌, [], if◌then◌else◌, true, length, slice_get, IfOk, OnOk, Contains};
 ghost use Rattle.hk_blast.specs.Blasted.{HasWord};
 ghost use Rattle.hk_inst.specs.Inputs.{AreNumbered};
 ghost use Rattle.hk_inst.specs.States.{kind_of};
@@ -36,15 +36,22 @@ fn push_if(holds: bool, t: TermId, items: &mut Vec<u64>) -> Result<(), AllocErro
     Ok(())
 }
 
-// The reads, or the quantifiers, that the table has, in its order.
-fn found(alloc: Global, terms: &Terms, bits: &BitTable, reads: bool) -> Result<Vec<u64>, AllocError>
-    requires { (k : ℕ) → HasWord bits.now k → k < length terms.now }
-    ensures are { IfOk result (λ l. (t : ℕ) → Contains l.items t → (HasWord bits.now t) × (kind_of reads (slice_get terms.now t) ≡ true)) }
-    ensures all { IfOk result (λ l. (t : ℕ) → HasWord bits.now t → kind_of reads (slice_get terms.now t) ≡ true → Contains l.items t) }
+// The reads, or the quantifiers, that the table has from an entry on, in its order.
+fn found(
+    alloc: Global,
+    terms: &Terms,
+    bits: &BitTable,
+    start: u64,
+    reads: bool,
+) -> Result<Vec<u64>, AllocError>
+    requires start { start ≤ length bits.now }
+    requires there { (k : ℕ) → HasWord bits.now k → k < length terms.now }
+    ensures are { IfOk result (λ l. (t : ℕ) → Contains l.items t → (HasWord (drop start bits.now) t) × (kind_of reads (slice_get terms.now t) ≡ true)) }
+    ensures all { IfOk result (λ l. (t : ℕ) → HasWord (drop start bits.now) t → kind_of reads (slice_get terms.now t) ≡ true → Contains l.items t) }
 {
     let mut items = Vec::new(alloc);
-    for i in 0..bits.len() {
-        let t = bits.at(i);
+    for i in 0..bits.len() - start {
+        let t = bits.at(start + i);
         push_if(is_of(terms, t, reads), t, &mut items)?;
     }
     Ok(items)
@@ -55,12 +62,14 @@ pub(crate) fn numbered(
     alloc: Global,
     terms: &Terms,
     bits: &BitTable,
+    start: u64,
     reads: bool,
 ) -> Result<Vec<u64>, AllocError>
-    requires { (k : ℕ) → HasWord bits.now k → k < length terms.now }
-    ensures { IfOk result (λ l. AreNumbered terms.now (kind_of reads) bits.now l.items) }
+    requires start { start ≤ length bits.now }
+    requires there { (k : ℕ) → HasWord bits.now k → k < length terms.now }
+    ensures { IfOk result (λ l. AreNumbered terms.now (kind_of reads) (drop start bits.now) l.items) }
 {
-    let mut items = found(alloc, terms, bits, reads)?;
+    let mut items = found(alloc, terms, bits, start, reads)?;
     items.sort_unstable();
     items.dedup();
     Ok(items)

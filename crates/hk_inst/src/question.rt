@@ -1,18 +1,21 @@
 //! Questions.
 
-ghost use Rattle.std.specs.Prelude.{◌≡◌, ◌<◌, [], false, true, nat_eq, length, IfOk};
+ghost use Rattle.std.specs.Prelude.{◌≡◌, ◌<◌, ◌++◌, ◌∷◌, [], false, true, nat_eq, length, IfOk, IfErr, OnOk, OnErr};
 ghost use Rattle.hk_term.specs.Meaning.{Reading, reading_of, value};
 ghost use Rattle.hk_cnf.specs.Clauses.{clauses_value};
 ghost use Rattle.hk_inst.specs.declared.instance.Instance.{Instance};
 ghost use Rattle.hk_inst.specs.Inputs.{number_in, completed};
-ghost use Rattle.hk_inst.specs.Truths.{IsTrue, is_among};
+ghost use Rattle.hk_inst.specs.Truths.{IsInstance, IsTrue, is_among};
 ghost use Rattle.hk_inst.specs.Exactness.{Exact};
 ghost use Rattle.hk_inst.specs.Growing.{IsGoal};
+ghost use Rattle.hk_inst.specs.Adding.{IsFault, Lengthened};
 
+use crate::adding::add;
 use crate::completion::completion;
-use crate::instance::InstanceList;
+use crate::instance::{Instance, InstanceList};
 use crate::start::{holds, made};
 use crate::state::State;
+use crate::subject::AddFault;
 use hk_cnf::{Assignment, ClauseList};
 use hk_term::{TermId, Terms, Valuation};
 use std::alloc::{AllocError, Global};
@@ -65,6 +68,24 @@ impl Question {
         ensures { result.now ≡ self.now.instances }
     {
         &self.state.instances
+    }
+
+    /// Adds an instance: the clauses are exact for the goal and the instances with this one behind the others. What stood
+    /// before, clauses and numbers of reads and quantifiers among it, stays at the front; reads and quantifiers that come in
+    /// are numbered behind it. An instance that was added before changes nothing, and neither does one that is refused, be
+    /// it for its numbers or for want of memory. The instances are gone through once, and of the table only what comes in.
+    pub fn add(&mut self, alloc: Global, instance: Instance) -> Result<(), AddFault>
+        ensures names { OnOk result (IsInstance self.old.nodes self.old.table instance) }
+        ensures fault { IfErr result (λ f. IsFault self.old.nodes self.old.table instance f) }
+        ensures refused { OnErr result (self.new ≡ self.old) }
+        ensures again { is_among self.old.instances instance ≡ true → self.new ≡ self.old }
+        ensures added { OnOk result (is_among self.old.instances instance ≡ false → self.new.instances ≡ self.old.instances ++ instance ∷ []) }
+        ensures front { Lengthened self.old self.new }
+        ensures goal { (v : Reading) → value self.new.nodes self.new.goal v ≡ value self.old.nodes self.old.goal v }
+        ensures exact { Exact (λ v. nat_eq (value self.old.nodes self.old.goal v) 1) self.new.instances (record { vars = self.new.circuit.vars; clauses = self.new.circuit.clauses }) }
+    {
+        let done = add(alloc, &mut self.state, instance);
+        done
     }
 
     /// Whether the goal is true under a valuation.

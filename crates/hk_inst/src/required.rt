@@ -7,11 +7,11 @@ ghost use Rattle.hk_term.specs.declared.bounds.Bound.{Bound};
 ghost use Rattle.hk_term.specs.declared.node.Node.{Node};
 ghost use Rattle.hk_copy.specs.declared.stand.Stand.{Stand};
 ghost use Rattle.hk_copy.specs.Reach.{Tests, passes, AllPass};
-ghost use Rattle.hk_inst.specs.Demanded.{IsRefutation, IsChoice};
+ghost use Rattle.hk_inst.specs.Demanded.{IsAgreement, IsImplication, IsRefutation, IsChoice};
 ghost use Rattle.hk_inst.specs.Questions.{wide_from};
 ghost use Rattle.hk_inst.specs.Growing.{ids_below};
 
-use hk_term::{Bound, Node, TermId, TermKind, Terms};
+use hk_term::{Bound, Node, TermId, TermKind, TermResize, Terms};
 use std::alloc::AllocError;
 
 // The term of a node.
@@ -155,6 +155,105 @@ pub(crate) fn choice(
             condition: term,
             a: one,
             b: rest,
+        },
+    )?;
+    Ok(made)
+}
+
+// "The place, at 64 bits."
+fn widened(terms: &mut Terms, place: TermId) -> Result<TermId, AllocError>
+    requires place { place < length terms.old }
+    ensures at { IfOk result (λ t. slice_get terms.new t ≡ Some (Node.Resize TermResize.Zero 64 place)) }
+    ensures within { IfOk result (λ t. t < length terms.new) }
+    ensures width { IfOk result (λ t. width terms.new t ≡ 64) }
+    ensures keeps { (k : ℕ) (n : Node) → slice_get terms.old k ≡ Some n → slice_get terms.new k ≡ Some n }
+    ensures keeps_widths { (k : ℕ) → k < length terms.old → width terms.new k ≡ width terms.old k }
+    ensures longer { length terms.old ≤ length terms.new }
+    ensures grows { (first : List Node) → Grows first terms.old → Grows first terms.new }
+    ensures adds { (tests : Tests) → AllPass tests terms.old → AllPass tests terms.new }
+{
+    terms.width(place);
+    let made = put(
+        terms,
+        Node::Resize {
+            kind: TermResize::Zero,
+            to: 64,
+            a: place,
+        },
+    );
+    made
+}
+
+// "If these places are equal, the values of these two reads are."
+pub(crate) fn agreement(
+    terms: &mut Terms,
+    first: TermId,
+    second: TermId,
+    place: TermId,
+    other_place: TermId,
+) -> Result<TermId, AllocError>
+    requires first { first < length terms.old }
+    requires second { second < length terms.old }
+    requires values { width terms.old first ≡ width terms.old second }
+    requires place { place < length terms.old }
+    requires other_place { other_place < length terms.old }
+    ensures agrees { IfOk result (λ d. IsAgreement terms.new first second place other_place d) }
+    ensures within { IfOk result (λ d. d < length terms.new) }
+    ensures grows { (front : List Node) → Grows front terms.old → Grows front terms.new }
+    ensures adds { OnOk result ((tests : Tests) → AllPass tests terms.old → AllPass tests terms.new) }
+{
+    let wide = widened(terms, place)?;
+    let other_wide = widened(terms, other_place)?;
+    let places = put(
+        terms,
+        Node::Binary {
+            kind: TermKind::Eq,
+            a: wide,
+            b: other_wide,
+        },
+    )?;
+    let values = put(
+        terms,
+        Node::Binary {
+            kind: TermKind::Eq,
+            a: first,
+            b: second,
+        },
+    )?;
+    let one = put(terms, Node::Const { width: 1, value: 1 })?;
+    let made = put(
+        terms,
+        Node::Choose {
+            condition: places,
+            a: values,
+            b: one,
+        },
+    )?;
+    Ok(made)
+}
+
+// "If the quantifier is true, this copy of its body is."
+pub(crate) fn implication(
+    terms: &mut Terms,
+    term: TermId,
+    copy: TermId,
+) -> Result<TermId, AllocError>
+    requires term { term < length terms.old }
+    requires truth { width terms.old term ≡ 1 }
+    requires copy { copy < length terms.old }
+    requires copy_truth { width terms.old copy ≡ 1 }
+    ensures implies { IfOk result (λ d. IsImplication terms.new term copy d) }
+    ensures within { IfOk result (λ d. d < length terms.new) }
+    ensures grows { (front : List Node) → Grows front terms.old → Grows front terms.new }
+    ensures adds { OnOk result ((tests : Tests) → AllPass tests terms.old → AllPass tests terms.new) }
+{
+    let one = put(terms, Node::Const { width: 1, value: 1 })?;
+    let made = put(
+        terms,
+        Node::Choose {
+            condition: term,
+            a: copy,
+            b: one,
         },
     )?;
     Ok(made)

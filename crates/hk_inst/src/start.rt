@@ -110,8 +110,8 @@ pub(crate) fn made(alloc: Global, terms: Terms, goal: TermId) -> Result<State, A
 {
     let mut state = begin(alloc, terms, goal)?;
     close(alloc, &mut state, 0)?;
-    let reads = numbered(alloc, &state.terms, &state.bits, true)?;
-    let quantifiers = numbered(alloc, &state.terms, &state.bits, false)?;
+    let reads = numbered(alloc, &state.terms, &state.bits, 0, true)?;
+    let quantifiers = numbered(alloc, &state.terms, &state.bits, 0, false)?;
     state.reads = reads;
     state.quantifiers = quantifiers;
     Ok(state)

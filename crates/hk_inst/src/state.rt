@@ -2,7 +2,8 @@
 
 ghost use Rattle.std.specs.Prelude.{◌<◌, List, length, OnOk};
 ghost use Rattle.hk_term.specs.declared.node.Node.{Node};
-ghost use Rattle.hk_blast.specs.Blasted.{HasWord, word_in, AreBlasted};
+ghost use Rattle.hk_cnf.specs.Front.{IsFront};
+ghost use Rattle.hk_blast.specs.Blasted.{HasWord, word_in, AreBlasted, Lengthens};
 ghost use Rattle.hk_inst.specs.Growing.{IsMade, IsRequiring};
 
 use crate::instance::InstanceList;
@@ -38,7 +39,9 @@ pub(crate) fn make(
 ) -> Result<(), AllocError>
     requires term { t < length terms.now }
     requires table { AreBlasted terms.now gates.old bits.old }
-    ensures { OnOk result (IsMade terms.now gates.old gates.new bits.old bits.new t) }
+    ensures made { OnOk result (IsMade terms.now gates.old gates.new bits.old bits.new t) }
+    ensures front { IsFront gates.old gates.new }
+    ensures lengthens { Lengthens terms.now gates.old.vars bits.old bits.new }
 {
     let done = blast(terms, t, gates, bits);
     gates.sizes();
@@ -49,7 +52,8 @@ pub(crate) fn make(
 pub(crate) fn require(t: TermId, gates: &mut Gates, bits: &BitTable) -> Result<(), AllocError>
     requires table { (nodes : List Node) × (AreBlasted nodes gates.old bits.now) }
     requires known { HasWord bits.now t }
-    ensures { OnOk result (IsRequiring gates.old gates.new (word_in bits.now t)) }
+    ensures requiring { OnOk result (IsRequiring gates.old gates.new (word_in bits.now t)) }
+    ensures front { IsFront gates.old gates.new }
 {
     match bits.get(t) {
         Some(word) => {

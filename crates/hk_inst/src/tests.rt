@@ -3,8 +3,10 @@
 ghost use Rattle.std.specs.Prelude.{◌≡◌, ◌<◌, [], length, IfOk};
 ghost use Rattle.hk_inst.specs.Growing.{IsGoal};
 
+use crate::instance::{Instance, SizeList};
 use crate::question::Question;
 use crate::required::put;
+use crate::subject::AddFault;
 use hk_cnf::{Assignment, satisfies};
 use hk_term::{Bound, BoundList, Node, TermId, TermKind, Terms, UnaryKind, Valuation};
 use std::alloc::{AllocError, Global};
@@ -99,5 +101,49 @@ fn completes_the_truth(rt: HostRuntime) -> Result<(), Fail> {
     if let Some(case) = case {
         assert_eq!(rt; case?.vars.get(0), 0);
     }
+    Ok(())
+}
+
+// A quantifier with a tuple of one number.
+fn at(alloc: Global, quantifier: u64, place: u64) -> Result<Instance, AllocError> {
+    let indices = SizeList::from_vec(vec![in alloc; place]?);
+    Ok(Instance::Tuple {
+        quantifier,
+        indices,
+    })
+}
+
+#[test]
+fn adds_instances(rt: HostRuntime) -> Result<(), Fail> {
+    let alloc = rt.alloc();
+    let mut terms = Terms::new(alloc);
+    let goal = differs(alloc, &mut terms)?;
+    let last = at(alloc, 0, 2)?;
+    let again = at(alloc, 0, 2)?;
+    let past = at(alloc, 0, 3)?;
+    let other = at(alloc, 1, 0)?;
+    let mut question = Question::new(alloc, terms, goal)?;
+    let without = question.clauses().len();
+    let none = question.add(alloc, Instance::Pair { a: 0, b: 1 });
+    let refused = question.add(alloc, past);
+    let missing = question.add(alloc, other);
+    let unchanged = question.clauses().len();
+    let tuple = question.add(alloc, last);
+    let with_tuple = question.clauses().len();
+    let pair = question.add(alloc, Instance::Pair { a: 0, b: 1 });
+    let with_pair = question.clauses().len();
+    let twice = question.add(alloc, again);
+    let (instances, clauses) = question.into_parts();
+    assert!(rt; none == Err(AddFault::NoSuch));
+    assert!(rt; refused == Err(AddFault::NoSuch));
+    assert!(rt; missing == Err(AddFault::NoSuch));
+    assert_eq!(rt; unchanged, without);
+    assert!(rt; tuple == Ok(()));
+    assert!(rt; with_tuple > unchanged);
+    assert!(rt; pair == Ok(()));
+    assert!(rt; with_pair > with_tuple);
+    assert!(rt; twice == Ok(()));
+    assert_eq!(rt; clauses.len(), with_pair);
+    assert_eq!(rt; instances.as_slice().len(), 2);
     Ok(())
 }

@@ -1,4 +1,5 @@
-use Rattle.std.proofs.Common.{◌+◌, List, length, arith, sym, subst}
+use Rattle.std.proofs.lemmas.List.{append-nil}
+use Rattle.std.proofs.Common.{◌∙◌, ◌+◌, List, [], ◌∷◌, length, arith, sym, subst}
 use Rattle.hk_copy.specs.Reach.{AllPass}
 use Rattle.hk_blast.proofs.LongerLists.{blasted-longer}
 use Rattle.hk_inst.specs.declared.opening.Opening.{Opening}
@@ -6,6 +7,8 @@ use Rattle.hk_inst.specs.Questions.{AreVariables}
 use Rattle.hk_inst.specs.Growing.{IsGrowing, ids_below}
 use Rattle.hk_inst.specs.States.{asked_of}
 use Rattle.hk_inst.proofs.WideStands.{wide-variables}
+use Rattle.hk_cnf.proofs.FrontLaws.{IsFront-trans}
+use Rattle.hk_inst.proofs.Lengthening.{longer-refl, longer-words, ahead}
 use Rattle.hk_inst.proofs.StateSteps.{opened}
 use Rattle.hk_inst.proofs.growth.open.Goals as goal
 
@@ -28,4 +31,20 @@ returns-clause-growing c =
     (subst (AreVariables c.args.s.now.next (c.args.s.now.next + length c.as_slice-bound.result.now)) (sym c.in_ok-opening.ensures.stands) (wide-variables c.as_slice-bound.result.now c.args.s.now.next)))
     c.in_ok-opening.ensures.opening (omega (arith, c.in_ok-next.ensures)) c.in_ok-opening.ensures.fit c.in_ok-opening.ensures.distinct
     (subst (λ n. AllPass (ids_below n) c.prepare.new.terms) (sym c.in_ok-next.ensures) c.in_ok-opening.ensures.adds)
-    c.in_ok-make.ensures c.in_ok-require.ensures c.requires.growing)
+    c.in_ok-make.ensures.made c.in_ok-require.ensures.requiring c.requires.growing)
+
+pub returns-in_err-make-clause-front : goal.returns-in_err-make-clause-front
+returns-in_err-make-clause-front c = λ q h.
+    ahead q (asked_of c.args.s.now) h c.prepare.new.terms c.make.new.gates c.make.new.bits c.args.s.now.openings.items c.in_ok-opening.ensures.grows c.make.ensures.front (longer-words c.prepare.new.terms c.args.s.now.gates.vars c.args.s.now.bits c.make.new.bits c.make.ensures.lengthens) (longer-refl c.args.s.now.openings.items)
+
+pub returns-in_err-require-clause-front : goal.returns-in_err-require-clause-front
+returns-in_err-require-clause-front c = λ q h.
+    ahead q (asked_of c.args.s.now) h c.prepare.new.terms c.require.new.gates c.make.new.bits c.args.s.now.openings.items c.in_ok-opening.ensures.grows (IsFront-trans c.args.s.now.gates c.make.new.gates c.require.new.gates c.make.ensures.front c.require.ensures.front) (longer-words c.prepare.new.terms c.args.s.now.gates.vars c.args.s.now.bits c.make.new.bits c.make.ensures.lengthens) (longer-refl c.args.s.now.openings.items)
+
+pub returns-in_err-push-clause-front : goal.returns-in_err-push-clause-front
+returns-in_err-push-clause-front c = λ q h.
+    ahead q (asked_of c.args.s.now) h c.prepare.new.terms c.require.new.gates c.make.new.bits c.push.new.self.items c.in_ok-opening.ensures.grows (IsFront-trans c.args.s.now.gates c.make.new.gates c.require.new.gates c.make.ensures.front c.require.ensures.front) (longer-words c.prepare.new.terms c.args.s.now.gates.vars c.args.s.now.bits c.make.new.bits c.make.ensures.lengthens) ([], c.in_err-push.ensures.items ∙ sym (append-nil c.args.s.now.openings.items))
+
+pub returns-clause-front : goal.returns-clause-front
+returns-clause-front c = λ q h.
+    ahead q (asked_of c.args.s.now) h c.prepare.new.terms c.require.new.gates c.make.new.bits c.push.new.self.items c.in_ok-opening.ensures.grows (IsFront-trans c.args.s.now.gates c.make.new.gates c.require.new.gates c.make.ensures.front c.require.ensures.front) (longer-words c.prepare.new.terms c.args.s.now.gates.vars c.args.s.now.bits c.make.new.bits c.make.ensures.lengthens) (c.in_ok-opening.opening ∷ [], c.in_ok-push.ensures.items)

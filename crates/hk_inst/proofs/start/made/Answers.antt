@@ -1,4 +1,4 @@
-use Rattle.std.proofs.Common.{◌∙◌, sym, subst, length}
+use Rattle.std.proofs.Common.{arith, ◌∙◌, sym, subst, length}
 use Rattle.hk_term.specs.Shape.{Grows}
 use Rattle.hk_copy.proofs.StepLaws.{grows-refl}
 use Rattle.hk_inst.specs.States.{asked_of}
@@ -7,10 +7,10 @@ use Rattle.hk_inst.proofs.Beginning.{with_numbers, numbered-growing, first-step,
 use Rattle.hk_inst.proofs.start.made.Goals as goal
 
 pub numbered-requires : goal.numbered-requires
-numbered-requires c = known-within c.close.new.s.terms c.close.new.s.gates c.close.new.s.bits c.in_ok-close.ensures.growing.base.blasted
+numbered-requires c = record { start = omega arith; there = known-within c.close.new.s.terms c.close.new.s.gates c.close.new.s.bits c.in_ok-close.ensures.growing.base.blasted }
 
 pub numbered-requires-2 : goal.numbered-requires-2
-numbered-requires-2 c = known-within c.close.new.s.terms c.close.new.s.gates c.close.new.s.bits c.in_ok-close.ensures.growing.base.blasted
+numbered-requires-2 c = record { start = omega arith; there = known-within c.close.new.s.terms c.close.new.s.gates c.close.new.s.bits c.in_ok-close.ensures.growing.base.blasted }
 
 pub returns-clause-kept : goal.returns-clause-kept
 returns-clause-kept c =
