@@ -1,0 +1,5 @@
+pub mod CodeActs
+pub mod CodePlaces
+pub mod CodeOrders
+pub mod Links
+pub mod CallLaws

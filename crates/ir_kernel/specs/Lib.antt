@@ -1,0 +1,4 @@
+pub mod Orders
+pub mod Kernels
+pub mod Answers
+pub mod Runs

@@ -1,0 +1,14 @@
+//! Kernels that run.
+//!
+//! Stands on checks, layout, the code of a module, and the step machine with its walks. A module that was read comes in; a kernel goes
+//! out, or the first item that is refused. A kernel has its checked module, its layout and its code, and its functions can be run. Each
+//! run ends within the expanded length of its function.
+#![tactic(auto)]
+
+mod calling;
+mod kernel;
+mod laws;
+
+pub use calling::run;
+pub use kernel::Kernel;
+pub use laws::{checked_kernels_are_loop_free, runs_of_kernels_end};
