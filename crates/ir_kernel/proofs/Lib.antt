@@ -3,3 +3,4 @@ pub mod CodePlaces
 pub mod CodeOrders
 pub mod Links
 pub mod CallLaws
+pub mod ValueTypes

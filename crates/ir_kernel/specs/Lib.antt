@@ -2,3 +2,4 @@ pub mod Orders
 pub mod Kernels
 pub mod Answers
 pub mod Runs
+pub mod Typed

@@ -1,9 +1,14 @@
 //! Laws of checked kernels and their runs. A function here does nothing: its contract is the law.
 
-ghost use Rattle.std.specs.Prelude.{◌≡◌, ◌≢◌, ◌+◌, ◌<◌, ◌≤◌, ℕ, List, Some, true, is_some, slice_get, bytes_eq};
+ghost use Rattle.std.specs.Prelude.{Bool, ◌≡◌, ◌≢◌, ◌+◌, ◌<◌, ◌≤◌, ℕ, List, Some, true, is_some, slice_get, bytes_eq};
 ghost use Rattle.std.specs.List.{IsDistinct};
+ghost use Rattle.ir_ast.specs.Plain.{Ty, integer, pointer};
 ghost use Rattle.ir_ast.specs.Program.{FunctionView, ModuleView};
 ghost use Rattle.ir_ast.specs.Table.{names_of};
+ghost use Rattle.ir_ast.specs.declared.operand.Flags.{Flags};
+ghost use Rattle.ir_ast.specs.declared.instr.BinaryKind.{BinaryKind};
+ghost use Rattle.ir_ast.specs.declared.instr.ConvertKind.{ConvertKind};
+ghost use Rattle.ir_ast.specs.declared.instr.Predicate.{Predicate};
 ghost use Rattle.ir_check.specs.Paths.{IsLength};
 ghost use Rattle.ir_check.specs.Checked as checked;
 ghost use Rattle.ir_machine.specs.declared.state.End.TheVariants.{Unfinished};
@@ -11,6 +16,14 @@ ghost use Rattle.ir_machine.specs.Step.{run, start};
 ghost use Rattle.ir_walk.specs.Walk.{Memory, end_of_walk};
 ghost use Rattle.ir_walk.specs.LoopFree.{IsLoopFree, AreLengths};
 ghost use Rattle.ir_resolve.specs.Resolved.{code_of, program_of};
+ghost use Rattle.ir_value.specs.declared.value.Value.{Value};
+ghost use Rattle.ir_value.specs.declared.intrinsics.OverflowKind.{OverflowKind};
+ghost use Rattle.ir_value.specs.declared.intrinsics.PairKind.{PairKind};
+ghost use Rattle.ir_value.specs.Numbers as numbers;
+ghost use Rattle.ir_value.specs.Numbers.{is_width};
+ghost use Rattle.ir_value.specs.Pointers as pointers;
+ghost use Rattle.ir_value.specs.Intrinsics as intrinsics;
+ghost use Rattle.ir_kernel.specs.Typed.{is_of, MakesOf};
 ghost use Rattle.ir_kernel.specs.Orders.{AreOrders, AreOrdered, length_at};
 
 /// The code of a checked kernel has no loop and no recursion: edges go forward in the orders of its functions, calls go to functions
@@ -30,4 +43,23 @@ pub fn runs_of_kernels_end()
     ensures finished { (m : ModuleView) → checked.IsChecked m → IsDistinct bytes_eq (names_of m.functions) → AreOrdered m →
         (f : ℕ) (e : List ℕ × FunctionView) (n : ℕ) (arguments : List ℕ) (memory : Memory) → slice_get m.functions f ≡ Some e → is_some e.1.body ≡ true → IsLength m e.0 n →
         run (program_of m) n (start (code_of m e.1) f arguments memory) ≢ Unfinished }
+{}
+
+/// Of operands of its types an instruction makes a value of its type, or the run is stuck. Nothing is lost.
+pub fn instructions_make_values_of_their_types()
+    ensures binary { (f : Flags) (kind : BinaryKind) (w : ℕ) (a b : Value) → is_width w ≡ true → is_of (integer w) a ≡ true → is_of (integer w) b ≡ true → MakesOf (integer w) (numbers.binary f kind w a b) }
+    ensures compare { (p : Predicate) (w : ℕ) (a b : Value) → is_width w ≡ true → is_of (integer w) a ≡ true → is_of (integer w) b ≡ true → MakesOf (integer 1) (numbers.compare_numbers p w a b) }
+    ensures compare_pointers { (p : Predicate) (m n : ℕ) (a b : Value) → is_of pointer a ≡ true → is_of pointer b ≡ true → MakesOf (integer 1) (pointers.compare_pointers p m n a b) }
+    ensures convert { (nneg : Bool) (kind : ConvertKind) (from to : ℕ) (a : Value) → is_width from ≡ true → is_width to ≡ true → numbers.is_narrower kind from to ≡ true → is_of (integer from) a ≡ true →
+        MakesOf (integer to) (numbers.convert nneg kind from to a) }
+    ensures select { (t : Ty) (c a b : Value) → is_of (integer 1) c ≡ true → is_of t a ≡ true → is_of t b ≡ true → MakesOf t (numbers.select c a b) }
+    ensures freeze { (t : Ty) (a : Value) → is_of t a ≡ true → MakesOf t (numbers.freeze a) }
+    ensures number { (kind : OverflowKind) (signed : Bool) (w : ℕ) (a b : Value) → is_width w ≡ true → is_of (integer w) a ≡ true → is_of (integer w) b ≡ true →
+        MakesOf (integer w) (intrinsics.with_overflow kind signed w 0 a b) }
+    ensures bit { (kind : OverflowKind) (signed : Bool) (w : ℕ) (a b : Value) → is_width w ≡ true → is_of (integer w) a ≡ true → is_of (integer w) b ≡ true →
+        MakesOf (integer 1) (intrinsics.with_overflow kind signed w 1 a b) }
+    ensures pair { (kind : PairKind) (w : ℕ) (a b : Value) → is_width w ≡ true → is_of (integer w) a ≡ true → is_of (integer (intrinsics.second_width kind w)) b ≡ true →
+        MakesOf (integer w) (intrinsics.pair kind w a b) }
+    ensures begin { (inbounds : Bool) (size : ℕ) (v : Value) → is_of pointer (pointers.begin_at inbounds size v) ≡ true }
+    ensures steps { (inbounds : Bool) (size w each : ℕ) (i v : Value) → is_of pointer (pointers.step_of inbounds size w each i v) ≡ true }
 {}
