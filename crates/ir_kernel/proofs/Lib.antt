@@ -4,3 +4,4 @@ pub mod CodeOrders
 pub mod Links
 pub mod CallLaws
 pub mod ValueTypes
+pub mod OperandTypes

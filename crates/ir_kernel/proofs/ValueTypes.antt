@@ -138,7 +138,7 @@ chosen t zero a b l x y = y
 chosen t (suc zero) a b l x y = x
 chosen t (suc (suc c)) a b l x y = absurd (omega (arith, l))
 
-poison_of : (t : Ty) (a : Value) → is_of t a ≡ true → is_of t Poison ≡ true
+pub poison_of : (t : Ty) (a : Value) → is_of t a ≡ true → is_of t Poison ≡ true
 poison_of (integer w) a x = refl
 poison_of pointer a x = refl
 poison_of t a x = absurd cc

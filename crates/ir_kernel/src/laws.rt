@@ -2,7 +2,7 @@
 
 ghost use Rattle.std.specs.Prelude.{Bool, ◌≡◌, ◌≢◌, ◌+◌, ◌<◌, ◌≤◌, ℕ, List, Some, true, is_some, slice_get, bytes_eq};
 ghost use Rattle.std.specs.List.{IsDistinct};
-ghost use Rattle.ir_ast.specs.Plain.{Ty, integer, pointer};
+ghost use Rattle.ir_ast.specs.Plain.{Ty, integer, pointer, Val};
 ghost use Rattle.ir_ast.specs.Program.{FunctionView, ModuleView};
 ghost use Rattle.ir_ast.specs.Table.{names_of};
 ghost use Rattle.ir_ast.specs.declared.operand.Flags.{Flags};
@@ -12,6 +12,9 @@ ghost use Rattle.ir_ast.specs.declared.instr.Predicate.{Predicate};
 ghost use Rattle.ir_check.specs.Paths.{IsLength};
 ghost use Rattle.ir_check.specs.Checked as checked;
 ghost use Rattle.ir_machine.specs.declared.state.End.TheVariants.{Unfinished};
+ghost use Rattle.ir_typing.specs.Fits.{fits, scope_of};
+ghost use Rattle.ir_machine.specs.Values.{Registers, value_of};
+ghost use Rattle.ir_resolve.specs.Operands.{input_of};
 ghost use Rattle.ir_machine.specs.Step.{run, start};
 ghost use Rattle.ir_walk.specs.Walk.{Memory, end_of_walk};
 ghost use Rattle.ir_walk.specs.LoopFree.{IsLoopFree, AreLengths};
@@ -23,7 +26,7 @@ ghost use Rattle.ir_value.specs.Numbers as numbers;
 ghost use Rattle.ir_value.specs.Numbers.{is_width};
 ghost use Rattle.ir_value.specs.Pointers as pointers;
 ghost use Rattle.ir_value.specs.Intrinsics as intrinsics;
-ghost use Rattle.ir_kernel.specs.Typed.{is_of, MakesOf};
+ghost use Rattle.ir_kernel.specs.Typed.{is_of, MakesOf, IsValueOf, IsReady};
 ghost use Rattle.ir_kernel.specs.Orders.{AreOrders, AreOrdered, length_at};
 
 /// The code of a checked kernel has no loop and no recursion: edges go forward in the orders of its functions, calls go to functions
@@ -62,4 +65,10 @@ pub fn instructions_make_values_of_their_types()
         MakesOf (integer w) (intrinsics.pair kind w a b) }
     ensures begin { (inbounds : Bool) (size : ℕ) (v : Value) → is_of pointer (pointers.begin_at inbounds size v) ≡ true }
     ensures steps { (inbounds : Bool) (size w each : ℕ) (i v : Value) → is_of pointer (pointers.step_of inbounds size w each i v) ≡ true }
+{}
+
+/// An operand that fits a whole type, whose registers hold what their kinds ask and whose globals are known, has a value of the type.
+pub fn operands_have_values_of_their_types()
+    ensures { (m : ModuleView) (f : FunctionView) (memory : Memory) (rs : Registers) (t : Ty) (v : Val) → IsReady m f rs v → fits (scope_of m f) t v ≡ true →
+        IsValueOf t (value_of memory rs (input_of m f t v)) }
 {}
