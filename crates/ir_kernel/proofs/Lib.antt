@@ -5,3 +5,4 @@ pub mod Links
 pub mod CallLaws
 pub mod ValueTypes
 pub mod OperandTypes
+pub mod StepTypes

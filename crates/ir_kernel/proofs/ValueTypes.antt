@@ -39,7 +39,7 @@ asked t b m e h = subst (λ c. MakesOf t (if c then m else Lost)) (sym e) h
 below : (w n : ℕ) → n < 2 ^ w → MakesOf (integer w) (Gives (Number n))
 below w n l = lt-ltb n (2 ^ w) l
 
-number_of_width : (w n : ℕ) → is_number w n ≡ true → n < 2 ^ w
+pub number_of_width : (w n : ℕ) → is_number w n ≡ true → n < 2 ^ w
 number_of_width w n e = ltb-true n (2 ^ w) e
 
 unless_makes : (w n : ℕ) (b : Bool) → n < 2 ^ w → MakesOf (integer w) (unless b n)

@@ -3,3 +3,4 @@ pub mod Kernels
 pub mod Answers
 pub mod Runs
 pub mod Typed
+pub mod Steps

@@ -1,9 +1,9 @@
 //! Laws of checked kernels and their runs. A function here does nothing: its contract is the law.
 
-ghost use Rattle.std.specs.Prelude.{Bool, ◌≡◌, ◌≢◌, ◌+◌, ◌<◌, ◌≤◌, ℕ, List, Some, true, is_some, slice_get, bytes_eq};
-ghost use Rattle.std.specs.List.{IsDistinct};
+ghost use Rattle.std.specs.Prelude.{Bool, ◌≡◌, ◌≢◌, ◌+◌, ◌<◌, ◌≤◌, ℕ, List, Some, true, is_some, slice_get, bytes_eq, map, Contains};
+ghost use Rattle.std.specs.List.{IsDistinct, list_all};
 ghost use Rattle.ir_ast.specs.Plain.{Ty, integer, pointer, Val};
-ghost use Rattle.ir_ast.specs.Program.{FunctionView, ModuleView};
+ghost use Rattle.ir_ast.specs.Program.{InstrView, FunctionView, ModuleView};
 ghost use Rattle.ir_ast.specs.Table.{names_of};
 ghost use Rattle.ir_ast.specs.declared.operand.Flags.{Flags};
 ghost use Rattle.ir_ast.specs.declared.instr.BinaryKind.{BinaryKind};
@@ -13,9 +13,15 @@ ghost use Rattle.ir_check.specs.Paths.{IsLength};
 ghost use Rattle.ir_check.specs.Checked as checked;
 ghost use Rattle.ir_machine.specs.declared.state.End.TheVariants.{Unfinished};
 ghost use Rattle.ir_typing.specs.Fits.{fits, scope_of};
-ghost use Rattle.ir_machine.specs.Values.{Registers, value_of};
+ghost use Rattle.ir_machine.specs.Values.{Registers, value_of, computed, arguments_pass};
+ghost use Rattle.ir_code.specs.declared.program.Object.{Object};
+ghost use Rattle.ir_typing.specs.Registers.{kind_of};
+ghost use Rattle.ir_resolve.specs.Acts.{act_of, typed};
+ghost use Rattle.ir_kernel.specs.Steps.{ComputesOf, is_computation, IsPrepared, IsFound, DoPass};
 ghost use Rattle.ir_resolve.specs.Operands.{input_of};
-ghost use Rattle.ir_machine.specs.Step.{run, start};
+ghost use Rattle.ir_type.specs.Whole.{meant};
+ghost use Rattle.ir_code.specs.declared.act.Case.{Case};
+ghost use Rattle.ir_machine.specs.Step.{run, start, branch_to, switch_to};
 ghost use Rattle.ir_walk.specs.Walk.{Memory, end_of_walk};
 ghost use Rattle.ir_walk.specs.LoopFree.{IsLoopFree, AreLengths};
 ghost use Rattle.ir_resolve.specs.Resolved.{code_of, program_of};
@@ -71,4 +77,23 @@ pub fn instructions_make_values_of_their_types()
 pub fn operands_have_values_of_their_types()
     ensures { (m : ModuleView) (f : FunctionView) (memory : Memory) (rs : Registers) (t : Ty) (v : Val) → IsReady m f rs v → fits (scope_of m f) t v ≡ true →
         IsValueOf t (value_of memory rs (input_of m f t v)) }
+{}
+
+/// Where its operands are ready, a computation of a checked kernel gives its register what the register's kind asks, or the run is
+/// stuck. It is not lost. Computations are the operations, comparisons, `select`, `freeze`, changes of width, slots and
+/// `getelementptr`.
+pub fn computations_are_never_lost()
+    ensures { (m : ModuleView) (f : FunctionView) (memory : Memory) (objects : List Object) (rs : Registers) (before : List InstrView) (i : InstrView) → is_computation i.act ≡ true →
+        IsPrepared m f rs before i → ComputesOf m.types (kind_of i.act) (computed memory objects rs (act_of m f i.act)) }
+{}
+
+/// Where their operands are ready, a branch and a switch find a block, and the arguments of a call pass, or the run is stuck.
+pub fn jumps_and_arguments_are_never_lost()
+    ensures branch { (m : ModuleView) (f : FunctionView) (memory : Memory) (objects : List Object) (rs : Registers) (c : Val) (taken other : ℕ) → IsReady m f rs c →
+        fits (scope_of m f) (integer 1) c ≡ true → IsFound (branch_to (value_of memory rs (input_of m f (integer 1) c)) taken other) }
+    ensures switch { (m : ModuleView) (f : FunctionView) (memory : Memory) (objects : List Object) (rs : Registers) (w : ℕ) (on : Val) (cases : List Case) (default : ℕ) → IsReady m f rs on →
+        fits (scope_of m f) (integer w) on ≡ true → IsFound (switch_to (value_of memory rs (input_of m f (integer w) on)) cases default) }
+    ensures arguments { (m : ModuleView) (f : FunctionView) (memory : Memory) (objects : List Object) (rs : Registers) (arguments : List (Ty × Val)) →
+        list_all (λ (p : Ty × Val). fits (scope_of m f) (meant m.types p.0) p.1) arguments ≡ true → ((p : Ty × Val) → Contains arguments p → IsReady m f rs p.1) →
+        DoPass (arguments_pass memory rs (map (λ (a : Ty × Val). typed m f a.0 a.1) arguments)) }
 {}
