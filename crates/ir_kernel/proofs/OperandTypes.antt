@@ -1,15 +1,14 @@
 -- An operand that fits its type, and whose registers are set, has a value of the type.
-use Rattle.std.proofs.Common.{◌≡◌, ℕ, zero, suc, ◌+◌, ◌-◌, ◌%◌, ◌^◌, ◌<◌, ◌≤◌, ◌==◌, ◌&&◌, Bool, true, false, not, if◌then◌else◌, Option, Some, None, option_map, List, [], ◌∷◌, ◌++◌, map, length, refl, sym, ◌∙◌, ap, subst, arith}
-use Rattle.std.specs.Prelude.{ℤ, pos, negsuc, Contains, is_some, unwrap_or, position, bytes_eq, slice_get}
+use Rattle.std.proofs.Common.{◌≡◌, ℕ, ◌-◌, ◌%◌, ◌^◌, ◌&&◌, Bool, true, false, not, Option, Some, None, List, [], ◌∷◌, ◌++◌, map, refl, sym, ◌∙◌, ap, subst, arith}
+use Rattle.std.specs.Prelude.{ℤ, pos, negsuc, Contains, is_some, unwrap_or, position, bytes_eq}
 use Rattle.std.specs.List.{AllByRecursion}
 use Rattle.std.proofs.Math.Nat.{mod-lt}
 use Rattle.std.proofs.lemmas.Nat.{pow_pos}
 use Rattle.std.proofs.lemmas.Bool.{lt-ltb, eqb-true}
 use Rattle.std.proofs.lemmas.List.Elements.{Contains-append_left, Contains-append_right}
-use Rattle.ir_ast.specs.Plain.{Ty, Tys, nothing, integer, pointer, array, structure, packed, named, opaque, Val, Form, Indices, local, global, number, null, poison, address, form, no_indices, index_and}
+use Rattle.ir_ast.specs.Plain.{Ty, nothing, integer, pointer, array, structure, packed, named, opaque, Val, Form, Indices, local, global, number, null, poison, address, form, no_indices, index_and}
 use Rattle.ir_ast.specs.Program.{FunctionView, ModuleView}
 use Rattle.ir_ast.specs.Table.{names_of, place_of}
-use Rattle.ir_ast.specs.declared.operand.Flags.{Flags}
 use Rattle.ir_type.specs.Names.{entry_of, leaves_of, form_leaves_of, index_leaves_of, local_name, global_name}
 use Rattle.ir_type.specs.Whole.{Types, whole, meant, is_scalar, is_same, has_odd}
 use Rattle.ir_type.specs.Whole as types
@@ -20,21 +19,18 @@ use Rattle.ir_typing.specs.Places.{register_names}
 use Rattle.ir_typing.specs.Fits.{Scope, scope_of, whole_kind, modulo, fits_number, is_integer, fits_kind, list_of, field_at, part_at, steps, steps_over, fits, form_fits, indices_fit}
 use Rattle.ir_check.proofs.Undefined.{in_flat_map}
 use Rattle.ir_value.specs.declared.value.Value.{Value}
-use Rattle.ir_value.specs.declared.value.Value.TheVariants.{Number, Null, Address, Poison}
-use Rattle.ir_value.specs.Numbers.{is_number}
-use Rattle.ir_code.specs.declared.input.Base.{Base}
-use Rattle.ir_code.specs.declared.input.Base.TheVariants.{Register, Constant, Unknown}
+use Rattle.ir_value.specs.declared.value.Value.TheVariants.{Number, Null, Poison}
 use Rattle.ir_code.specs.declared.input.Move.{Move}
-use Rattle.ir_code.specs.declared.input.Move.TheVariants.{Begin, By}
+use Rattle.ir_code.specs.declared.input.Move.TheVariants.{Begin}
 use Rattle.ir_code.specs.declared.input.Input.{Input}
 use Rattle.ir_layout.specs.Sizes.{size_of, field_offset}
 use Rattle.ir_machine.specs.declared.state.Held.{Held}
 use Rattle.ir_machine.specs.declared.state.Held.TheVariants as held
 use Rattle.ir_machine.specs.Values.{Registers, held_at, value_held, base_value, size_at, stepped, moved, moved_all, value_of}
-use Rattle.ir_resolve.specs.Operands.{register_base, object_base, base_of, width_of, index_move, field_move, part_move, part_of, part_moves, moves_of, plain_input, moved_input, input_of, form_input}
+use Rattle.ir_resolve.specs.Operands.{register_base, object_base, base_of, width_of, index_move, field_move, part_move, part_of, part_moves, moves_of, input_of, form_input}
 use Rattle.ir_walk.specs.Walk.{Memory}
-use Rattle.ir_kernel.specs.Typed.{is_of, IsValueOf, is_held, IsSetTo, Holds, IsReady}
-use Rattle.ir_kernel.proofs.ValueTypes.{poison_of, begin_makes, step_makes}
+use Rattle.ir_kernel.specs.Typed.{is_of, IsValueOf, IsSetTo, Holds, IsReady}
+use Rattle.ir_kernel.proofs.ValueTypes.{begin_makes, step_makes}
 
 left_of : (a b : Bool) → (a && b) ≡ true → a ≡ true
 left_of true b e = refl

@@ -1,14 +1,14 @@
 -- What computations give fits their registers.
-use Rattle.std.proofs.Common.{◌≡◌, ℕ, zero, suc, ◌<◌, ◌&&◌, ◌==◌, if◌then◌else◌, Bool, true, false, not, Option, Some, None, List, [], ◌∷◌, ◌++◌, map, length, refl, sym, ◌∙◌, ap, subst, arith}
+use Rattle.std.proofs.Common.{◌≡◌, ℕ, zero, suc, ◌<◌, ◌&&◌, ◌==◌, if◌then◌else◌, Bool, true, false, Option, Some, None, List, [], ◌∷◌, map, refl, arith}
 use Rattle.std.specs.Prelude.{Contains, is_some}
-use Rattle.ir_ast.specs.Plain.{Ty, nothing, integer, pointer, array, structure, packed, named, opaque, Val, Form, address}
+use Rattle.ir_ast.specs.Plain.{Ty, nothing, integer, pointer, array, structure, packed, named, opaque, Val, address}
 use Rattle.ir_ast.specs.Program as plain
 use Rattle.ir_ast.specs.Program.{InstrView, FunctionView, ModuleView}
 use Rattle.ir_type.specs.Rows.{operands, values}
 use Rattle.ir_type.specs.Shape as shape
 use Rattle.ir_type.specs.Shape.{keeps_notes}
-use Rattle.ir_type.specs.Whole.{Types, meant, is_scalar, is_pointer}
-use Rattle.ir_typing.specs.Fits.{Scope, scope_of, fits, operands_fit, further, is_phi, instr_fits}
+use Rattle.ir_type.specs.Whole.{Types, meant}
+use Rattle.ir_typing.specs.Fits.{Scope, scope_of, fits, operands_fit, further, is_phi}
 use Rattle.std.specs.List.{list_all}
 use Rattle.ir_typing.specs.Registers as registers
 use Rattle.ir_typing.specs.Registers.{kind_of}
@@ -18,7 +18,6 @@ use Rattle.ir_value.specs.declared.value.Value.TheVariants.{Number, Null, Addres
 use Rattle.ir_value.specs.declared.value.Made.{Made}
 use Rattle.ir_value.specs.declared.value.Made.TheVariants.{Gives, Sticks, Lost}
 use Rattle.ir_value.specs.Numbers.{is_width, binary, compare_numbers, convert, freeze, select}
-use Rattle.ir_code.specs.declared.act.Act.{Act}
 use Rattle.ir_code.specs.declared.program.Object.{Object}
 use Rattle.ir_code.specs.declared.act.Case.{Case}
 use Rattle.ir_machine.specs.declared.state.Computed.{Computed}

@@ -1,12 +1,12 @@
 -- Instructions make values of their types of operands of theirs, or are stuck.
-use Rattle.std.proofs.Common.{◌≡◌, ℕ, zero, suc, ◌+◌, ◌-◌, ◌*◌, ◌%◌, ◌^◌, ◌<◌, ◌≤◌, ◌==◌, ◌&&◌, ◌||◌, Bool, true, false, not, if◌then◌else◌, nat_le, nat_eq, refl, sym, ◌∙◌, ap, subst, arith}
+use Rattle.std.proofs.Common.{◌≡◌, ℕ, zero, suc, ◌+◌, ◌-◌, ◌*◌, ◌%◌, ◌^◌, ◌<◌, ◌==◌, ◌&&◌, ◌||◌, Bool, true, false, if◌then◌else◌, nat_le, nat_eq, refl, sym, subst, arith}
 use Rattle.std.specs.Prelude.{ℤ, pos, ◌+ℤ◌, bit_and, bit_or, bit_xor}
 use Rattle.std.specs.Int.{int_div_euclid}
 use Rattle.std.specs.Int.RustNames.{int_div, int_rem}
 use Rattle.std.proofs.Math.Nat.{mod-lt}
 use Rattle.std.proofs.lemmas.Nat.{pow_pos, pow_below, and_le_l, or_lt, xor_lt}
 use Rattle.std.proofs.lemmas.Bool.{and_from, lt-ltb, ltb-true}
-use Rattle.hk_num.specs.Numbers.{signed_of, number_of, sign_extend, bvadd, bvsub, bvmul, bvudiv, bvurem, bvsdiv, bvsrem, bvshl, bvlshr, bvashr, bvslt, bvult}
+use Rattle.hk_num.specs.Numbers.{signed_of, sign_extend, bvadd, bvsub, bvmul, bvudiv, bvurem, bvsdiv, bvsrem, bvshl, bvlshr, bvashr, bvslt, bvult}
 use Rattle.hk_num.proofs.Algebra.{number_below, udiv_below, urem_below, lshr_below}
 use Rattle.ir_ast.specs.Plain.{Ty, integer, pointer}
 use Rattle.ir_ast.specs.declared.operand.Flags.{Flags}
@@ -24,9 +24,9 @@ use Rattle.ir_value.specs.declared.intrinsics.OverflowKind.{OverflowKind}
 use Rattle.ir_value.specs.declared.intrinsics.OverflowKind.TheVariants as overflow
 use Rattle.ir_value.specs.declared.intrinsics.PairKind.{PairKind}
 use Rattle.ir_value.specs.declared.intrinsics.PairKind.TheVariants as two
-use Rattle.ir_value.specs.Numbers.{is_width, is_number, is_narrower, is_division, is_signed_division, is_minus_one, is_least, takes, unless, truth, holds, of_numbers, by_poison, poison_by, binary_of, binary, compare_of, compare_numbers, convert_number, convert_of, convert, freeze, select}
-use Rattle.ir_value.specs.Pointers.{is_equality, is_pointer, compare_within, compare_known, compare_pointers, is_within, is_no_move, moved_within, move_by, begin_at, step_of, added_by}
-use Rattle.ir_value.specs.Intrinsics.{wrapped, overflowed, overflow_of, with_overflow, pick, absolute, pair_numbers, pair_of, second_width, pair}
+use Rattle.ir_value.specs.Numbers.{is_width, is_number, is_narrower, is_division, is_signed_division, is_minus_one, is_least, takes, unless, truth, holds, of_numbers, by_poison, binary_of, binary, compare_of, compare_numbers, convert_number, convert_of, convert, freeze, select}
+use Rattle.ir_value.specs.Pointers.{is_equality, is_pointer, compare_within, compare_known, compare_pointers, is_within, is_no_move, move_by, begin_at, step_of, added_by}
+use Rattle.ir_value.specs.Intrinsics.{wrapped, overflowed, overflow_of, with_overflow, pick, pair_numbers, pair_of, second_width, pair}
 use Rattle.ir_kernel.specs.Typed.{is_of, MakesOf}
 
 either : (t : Ty) (b : Bool) (m n : Made) → MakesOf t m → MakesOf t n → MakesOf t (if b then m else n)
