@@ -6,3 +6,4 @@ pub mod CallLaws
 pub mod ValueTypes
 pub mod OperandTypes
 pub mod StepTypes
+pub mod LoadTypes

@@ -65,7 +65,7 @@ held_value t (registers.value_of over) None e x = absurd x
 held_value t (registers.slot_of over) h e x = absurd cc
 held_value t (registers.pair_of over) h e x = absurd cc
 
-names_kept : (types : Types) (rows : List (List ℕ × Kind)) → names_of (map (λ (r : List ℕ × Kind). (r.0, whole_kind types r.1)) rows) ≡ map (λ (r : List ℕ × Kind). r.0) rows
+pub names_kept : (types : Types) (rows : List (List ℕ × Kind)) → names_of (map (λ (r : List ℕ × Kind). (r.0, whole_kind types r.1)) rows) ≡ map (λ (r : List ℕ × Kind). r.0) rows
 names_kept types [] = refl
 names_kept types (r ∷ rows) = ap (λ ns. r.0 ∷ ns) (names_kept types rows)
 

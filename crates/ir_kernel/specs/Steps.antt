@@ -1,5 +1,6 @@
 -- Instructions of a checked kernel, where their operands are ready: what they give fits their register.
-use Rattle.std.specs.Prelude.{◌≡◌, ℕ, Bool, true, false, Option, Some, None, List, map, Contains}
+use Rattle.std.specs.Prelude.{◌≡◌, ◌<◌, ℕ, Bool, true, false, Option, Some, None, List, map, slice_index, Contains}
+use Rattle.ir_layout.specs.Bytes.{object_of}
 use Rattle.ir_ast.specs.Plain.{Ty, integer, Val}
 use Rattle.ir_ast.specs.Program.{Act, binary, compare, select, convert, freeze, slot, offset, InstrView, FunctionView, ModuleView}
 use Rattle.ir_type.specs.Rows.{operands, values}
@@ -52,3 +53,7 @@ abbrev pub DoPass : Computed → Type 0
 DoPass Passes = Unit
 DoPass (Sticks r) = Unit
 DoPass _ = ⊥
+
+-- each byte of the memory is one
+abbrev pub AreBytes : List (List ℕ) → Type 0
+AreBytes memory = (o k : ℕ) → slice_index (object_of memory o) k < 256

@@ -1,9 +1,10 @@
 //! Laws of checked kernels and their runs. A function here does nothing: its contract is the law.
 
-ghost use Rattle.std.specs.Prelude.{Bool, ◌≡◌, ◌≢◌, ◌+◌, ◌<◌, ◌≤◌, ℕ, List, Some, true, is_some, slice_get, bytes_eq, map, Contains};
+ghost use Rattle.std.specs.Prelude.{Bool, ◌≡◌, ◌≢◌, ◌+◌, ◌<◌, ◌≤◌, ℕ, Option, List, Some, true, is_some, slice_get, bytes_eq, map, Contains};
 ghost use Rattle.std.specs.List.{IsDistinct, list_all};
 ghost use Rattle.ir_ast.specs.Plain.{Ty, integer, pointer, Val};
-ghost use Rattle.ir_ast.specs.Program.{InstrView, FunctionView, ModuleView};
+ghost use Rattle.ir_ast.specs.Program.{load, InstrView, FunctionView, ModuleView};
+ghost use Rattle.ir_check.specs.Rules.{IsPointerAccess};
 ghost use Rattle.ir_ast.specs.Table.{names_of};
 ghost use Rattle.ir_ast.specs.declared.operand.Flags.{Flags};
 ghost use Rattle.ir_ast.specs.declared.instr.BinaryKind.{BinaryKind};
@@ -12,12 +13,12 @@ ghost use Rattle.ir_ast.specs.declared.instr.Predicate.{Predicate};
 ghost use Rattle.ir_check.specs.Paths.{IsLength};
 ghost use Rattle.ir_check.specs.Checked as checked;
 ghost use Rattle.ir_machine.specs.declared.state.End.TheVariants.{Unfinished};
-ghost use Rattle.ir_typing.specs.Fits.{fits, scope_of};
+ghost use Rattle.ir_typing.specs.Fits.{fits, scope_of, access_fits};
 ghost use Rattle.ir_machine.specs.Values.{Registers, value_of, computed, arguments_pass};
 ghost use Rattle.ir_code.specs.declared.program.Object.{Object};
 ghost use Rattle.ir_typing.specs.Registers.{kind_of};
 ghost use Rattle.ir_resolve.specs.Acts.{act_of, typed};
-ghost use Rattle.ir_kernel.specs.Steps.{ComputesOf, is_computation, IsPrepared, IsFound, DoPass};
+ghost use Rattle.ir_kernel.specs.Steps.{ComputesOf, is_computation, IsPrepared, IsFound, DoPass, AreBytes};
 ghost use Rattle.ir_resolve.specs.Operands.{input_of};
 ghost use Rattle.ir_type.specs.Whole.{meant};
 ghost use Rattle.ir_code.specs.declared.act.Case.{Case};
@@ -96,4 +97,11 @@ pub fn jumps_and_arguments_are_never_lost()
     ensures arguments { (m : ModuleView) (f : FunctionView) (memory : Memory) (objects : List Object) (rs : Registers) (arguments : List (Ty × Val)) →
         list_all (λ (p : Ty × Val). fits (scope_of m f) (meant m.types p.0) p.1) arguments ≡ true → ((p : Ty × Val) → Contains arguments p → IsReady m f rs p.1) →
         DoPass (arguments_pass memory rs (map (λ (a : Ty × Val). typed m f a.0 a.1) arguments)) }
+{}
+
+/// A load whose access fits, from a slot or of an integer from memory, gives a value of its type, or the run is stuck.
+pub fn loads_are_never_lost()
+    ensures { (m : ModuleView) (f : FunctionView) (memory : Memory) (objects : List Object) (rs : Registers) (over : Ty) (target : Val) (align : ℕ) (range : Option (List ℕ)) → IsReady m f rs target →
+        AreBytes memory → access_fits (scope_of m f) over target align ≡ true → (IsPointerAccess (scope_of m f) (load over target align range) → ⊥) →
+        ComputesOf m.types (kind_of (load over target align range)) (computed memory objects rs (act_of m f (load over target align range))) }
 {}
