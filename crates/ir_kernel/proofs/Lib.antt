@@ -7,3 +7,4 @@ pub mod ValueTypes
 pub mod OperandTypes
 pub mod StepTypes
 pub mod LoadTypes
+pub mod StoreTypes

@@ -1,12 +1,11 @@
 -- Loads give values of their types, from memory and from slots.
-use Rattle.std.proofs.Common.{◌≡◌, ℕ, zero, suc, length, ◌+◌, ◌*◌, ◌%◌, ◌^◌, ◌<◌, ◌≤◌, ◌==◌, ◌&&◌, ◌||◌, nat_le, Bool, true, false, not, if◌then◌else◌, Option, Some, None, List, [], ◌∷◌, refl, sym, ◌∙◌, ap, subst, arith}
+use Rattle.std.proofs.Common.{◌≡◌, ℕ, zero, suc, length, ◌+◌, ◌*◌, ◌%◌, ◌^◌, ◌<◌, ◌==◌, ◌&&◌, ◌||◌, nat_le, Bool, true, false, not, if◌then◌else◌, Option, Some, None, List, refl, sym, ◌∙◌, ap, subst, arith}
 use Rattle.std.specs.Prelude.{Contains, is_some, position, bytes_eq, slice_index}
 use Rattle.std.proofs.lemmas.Bool.{eqb-true, lt-ltb, or_from, le-leb}
 use Rattle.std.proofs.lemmas.Grind.{pow_more}
-use Rattle.ir_ast.specs.Plain.{Ty, Tys, nothing, integer, pointer, array, structure, packed, named, opaque, Val, local, global, number, null, poison, address}
+use Rattle.ir_ast.specs.Plain.{Ty, integer, pointer, Val, local, global, number, null, poison, address}
 use Rattle.ir_ast.specs.Program as plain
 use Rattle.ir_ast.specs.Program.{FunctionView, ModuleView}
-use Rattle.ir_ast.specs.Table.{names_of, place_of}
 use Rattle.ir_type.specs.Names.{entry_of, locals_in}
 use Rattle.ir_type.specs.Whole.{Types, meant, is_scalar, is_same, is_odd, is_memory_width}
 use Rattle.ir_type.specs.Whole as types
@@ -20,10 +19,10 @@ use Rattle.ir_layout.specs.Bytes.{object_of, number_at}
 use Rattle.ir_layout.specs.Sizes.{size_of, align_of, written_or}
 use Rattle.ir_value.specs.declared.value.Value.{Value}
 use Rattle.ir_value.specs.declared.value.Value.TheVariants.{Number, Null, Address, Poison}
-use Rattle.ir_value.specs.declared.value.StuckReason.TheVariants.{U6, U7, U14, U16}
+use Rattle.ir_value.specs.declared.value.StuckReason.TheVariants.{U6, U7, U16}
 use Rattle.ir_value.specs.declared.access.Access.{Access}
 use Rattle.ir_value.specs.declared.access.Access.TheVariants.{At, Not, Nowhere}
-use Rattle.ir_value.specs.Pointers.{reach_of, reach}
+use Rattle.ir_value.specs.Pointers.{reach_of}
 use Rattle.ir_code.specs.declared.act.Span.{Span}
 use Rattle.ir_code.specs.declared.program.Object.{Object}
 use Rattle.ir_machine.specs.declared.state.Held.{Held}
@@ -35,24 +34,16 @@ use Rattle.ir_resolve.specs.Operands.{input_of, width_of}
 use Rattle.ir_resolve.specs.Acts.{act_of, load_of, slot_load, spans_at, register_place}
 use Rattle.ir_walk.specs.Walk.{Memory}
 use Rattle.ir_kernel.specs.Typed.{is_of, is_stored, IsValueOf, IsSetTo, Holds, IsReady}
-use Rattle.ir_kernel.specs.Steps.{ComputesOf, AreBytes}
+use Rattle.ir_kernel.specs.Steps.{ComputesOf, GivesOf, AreBytes}
 use Rattle.ir_kernel.proofs.OperandTypes.{operand_holds, names_kept}
 
-left_of : (a b : Bool) → (a && b) ≡ true → a ≡ true
+pub left_of : (a b : Bool) → (a && b) ≡ true → a ≡ true
 left_of true b e = refl
 left_of false b e = absurd cc
 
-right_of : (a b : Bool) → (a && b) ≡ true → b ≡ true
+pub right_of : (a b : Bool) → (a && b) ≡ true → b ≡ true
 right_of true b e = e
 right_of false b e = absurd cc
-
--- a value of the type is given, or the run is stuck
-abbrev GivesOf : Ty → Computed → Type 0
-GivesOf t (Sets (held.Value v)) = is_of t v ≡ true
-GivesOf t (Sets h) = ⊥
-GivesOf t Passes = Unit
-GivesOf t (Sticks r) = Unit
-GivesOf t Lost = ⊥
 
 gives_computes : (ts : Types) (over : Ty) (c : Computed) → GivesOf (meant ts over) c → ComputesOf ts (Some (registers.value_of over)) c
 gives_computes ts over (Sets (held.Value v)) h = h
@@ -86,7 +77,7 @@ value_in_spans t w Poison spans h = h
 
 -- ---- memory
 
-width_cases : (P : ℕ → Type 0) (w : ℕ) → is_memory_width w ≡ true → P 8 → P 16 → P 32 → P 64 → P w
+pub width_cases : (P : ℕ → Type 0) (w : ℕ) → is_memory_width w ≡ true → P 8 → P 16 → P 32 → P 64 → P w
 width_cases P w e a b c d = by (w == 8) (w == 16) (w == 32) (w == 64) refl refl refl refl
   where
     clash : {A : Type 0} → false ≡ true → A
@@ -128,7 +119,7 @@ module _ (memory : Memory) (objects : List Object) (bytes_are : AreBytes memory)
         let own = (object_at objects o).align in
         subst (λ b. G (if b then reach_of size own bytes align o x else Nowhere)) (sym aligned) (within_gives size own o x)
 
-  align_from : (align w : ℕ) → is_memory_width w ≡ true → nat_le 1 (written_or align (integer w)) ≡ true
+  pub align_from : (align w : ℕ) → is_memory_width w ≡ true → nat_le 1 (written_or align (integer w)) ≡ true
   align_from zero w e = width_cases (λ w. nat_le 1 (align_of (integer w)) ≡ true) w e refl refl refl refl
   align_from (suc n) w e = le-leb 1 (suc n) (omega arith)
 
@@ -165,7 +156,7 @@ slot_gives t over w align spans (Some (held.Slot slot_align stored)) e x = by (i
     by true = stored_gives t over w spans stored e x
     by false = tt
 
-slot_of_kind : (o : Option Kind) (over : Ty) → slot_kind o ≡ Some over → o ≡ Some (registers.slot_of over)
+pub slot_of_kind : (o : Option Kind) (over : Ty) → slot_kind o ≡ Some over → o ≡ Some (registers.slot_of over)
 slot_of_kind None over e = absurd cc
 slot_of_kind (Some (registers.value_of t)) over e = absurd cc
 slot_of_kind (Some (registers.slot_of t)) over e = cc
@@ -176,12 +167,12 @@ module _ (m : ModuleView) (f : FunctionView) (memory : Memory) (objects : List O
   s = scope_of m f
 
   -- the register of a slot
-  record IsSlot (target : Val) (over : Ty) : Type 0 where
+  pub record IsSlot (target : Val) (over : Ty) : Type 0 where
     pub place : ℕ
     pub at : register_place f target ≡ Some place
     pub holds : IsSetTo (registers.slot_of over) (held_at rs place)
 
-  slot_there : (target : Val) (over : Ty) → slot_at s target ≡ Some over → ((x : List ℕ) → target ≡ local x → Holds m f rs x) → IsSlot target over
+  pub slot_there : (target : Val) (over : Ty) → slot_at s target ≡ Some over → ((x : List ℕ) → target ≡ local x → Holds m f rs x) → IsSlot target over
   slot_there (local x) over e holds =
       let kind = slot_of_kind (entry_of x s.registers) over e in
       by kind (position (bytes_eq x) (register_names f)) refl

@@ -45,7 +45,7 @@ no_option x e = absurd cc
 
 -- ---- registers
 
-same_type : (over t : Ty) (v : Value) → is_scalar t ≡ true → is_same over t ≡ true → is_of over v ≡ true → is_of t v ≡ true
+pub same_type : (over t : Ty) (v : Value) → is_scalar t ≡ true → is_same over t ≡ true → is_of over v ≡ true → is_of t v ≡ true
 same_type (integer u) (integer w) v s e x = subst (λ n. is_of (integer n) v ≡ true) (eqb-true u w e) x
 same_type pointer pointer v s e x = x
 same_type nothing t v s e x = absurd cc

@@ -7,14 +7,17 @@ use Rattle.ir_type.specs.Rows.{operands, values}
 use Rattle.ir_type.specs.Shape.{keeps_notes}
 use Rattle.ir_type.specs.Whole.{Types, meant}
 use Rattle.ir_typing.specs.Fits.{whole_kind, instr_fits}
-use Rattle.ir_typing.specs.Registers.{Kind}
+use Rattle.ir_typing.specs.Registers.{Kind, slot_of}
 use Rattle.ir_value.specs.Numbers.{is_width}
+use Rattle.ir_machine.specs.declared.state.Held.TheVariants as held
 use Rattle.ir_machine.specs.declared.state.Computed.{Computed}
 use Rattle.ir_machine.specs.declared.state.Computed.TheVariants.{Sets, Passes, Sticks, Lost}
+use Rattle.ir_machine.specs.declared.state.Written.{Written}
+use Rattle.ir_machine.specs.declared.state.Written.TheVariants as written
 use Rattle.ir_machine.specs.declared.state.Target.{Target}
 use Rattle.ir_machine.specs.declared.state.Target.TheVariants as target
 use Rattle.ir_machine.specs.Values.{Registers}
-use Rattle.ir_kernel.specs.Typed.{is_held, IsReady}
+use Rattle.ir_kernel.specs.Typed.{is_of, is_held, IsReady}
 
 -- what an instruction gives is what a register of the kind holds, or the run is stuck
 abbrev pub ComputesOf : Types → Option Kind → Computed → Type 0
@@ -57,3 +60,23 @@ DoPass _ = ⊥
 -- each byte of the memory is one
 abbrev pub AreBytes : List (List ℕ) → Type 0
 AreBytes memory = (o k : ℕ) → slice_index (object_of memory o) k < 256
+
+-- a number is written, or the run is stuck
+abbrev pub IsWritten : Written → Type 0
+IsWritten (written.Puts o x n) = Unit
+IsWritten (written.Sticks r) = Unit
+IsWritten written.Lost = ⊥
+
+-- a value of the type is given, or the run is stuck
+abbrev pub GivesOf : Ty → Computed → Type 0
+GivesOf t (Sets (held.Value v)) = is_of t v ≡ true
+GivesOf t (Sets h) = ⊥
+GivesOf t Passes = Unit
+GivesOf t (Sticks r) = Unit
+GivesOf t Lost = ⊥
+
+-- a slot of the type is given, with what was stored, or the run is stuck
+abbrev pub HoldsSlot : Ty → Computed → Type 0
+HoldsSlot over (Sets h) = is_held (slot_of over) h ≡ true
+HoldsSlot over (Sticks r) = Unit
+HoldsSlot over _ = ⊥

@@ -1,9 +1,12 @@
 //! Laws of checked kernels and their runs. A function here does nothing: its contract is the law.
 
-ghost use Rattle.std.specs.Prelude.{Bool, ◌≡◌, ◌≢◌, ◌+◌, ◌<◌, ◌≤◌, ℕ, Option, List, Some, true, is_some, slice_get, bytes_eq, map, Contains};
+ghost use Rattle.std.specs.Prelude.{Bool, ◌≡◌, ◌≢◌, ◌+◌, ◌<◌, ◌≤◌, ℕ, Option, List, Some, true, is_some, slice_get, bytes_eq, map, Contains, if◌then◌else◌, ◌==◌};
 ghost use Rattle.std.specs.List.{IsDistinct, list_all};
 ghost use Rattle.ir_ast.specs.Plain.{Ty, integer, pointer, Val};
 ghost use Rattle.ir_ast.specs.Program.{load, InstrView, FunctionView, ModuleView};
+ghost use Rattle.ir_typing.specs.Intrinsics.{number_and_bit};
+ghost use Rattle.ir_layout.specs.Sizes.{size_of, written_or};
+ghost use Rattle.ir_machine.specs.declared.state.Held.{Held};
 ghost use Rattle.ir_check.specs.Rules.{IsPointerAccess};
 ghost use Rattle.ir_ast.specs.Table.{names_of};
 ghost use Rattle.ir_ast.specs.declared.operand.Flags.{Flags};
@@ -14,15 +17,15 @@ ghost use Rattle.ir_check.specs.Paths.{IsLength};
 ghost use Rattle.ir_check.specs.Checked as checked;
 ghost use Rattle.ir_machine.specs.declared.state.End.TheVariants.{Unfinished};
 ghost use Rattle.ir_typing.specs.Fits.{fits, scope_of, access_fits};
-ghost use Rattle.ir_machine.specs.Values.{Registers, value_of, computed, arguments_pass};
+ghost use Rattle.ir_machine.specs.Values.{Registers, value_of, computed, arguments_pass, part_of};
 ghost use Rattle.ir_code.specs.declared.program.Object.{Object};
-ghost use Rattle.ir_typing.specs.Registers.{kind_of};
+ghost use Rattle.ir_typing.specs.Registers.{kind_of, slot_of, pair_of};
 ghost use Rattle.ir_resolve.specs.Acts.{act_of, typed};
-ghost use Rattle.ir_kernel.specs.Steps.{ComputesOf, is_computation, IsPrepared, IsFound, DoPass, AreBytes};
+ghost use Rattle.ir_kernel.specs.Steps.{ComputesOf, is_computation, IsPrepared, IsFound, DoPass, AreBytes, IsWritten, HoldsSlot, GivesOf};
 ghost use Rattle.ir_resolve.specs.Operands.{input_of};
-ghost use Rattle.ir_type.specs.Whole.{meant};
+ghost use Rattle.ir_type.specs.Whole.{meant, is_scalar, is_same, is_memory_width};
 ghost use Rattle.ir_code.specs.declared.act.Case.{Case};
-ghost use Rattle.ir_machine.specs.Step.{run, start, branch_to, switch_to};
+ghost use Rattle.ir_machine.specs.Step.{run, start, branch_to, switch_to, stored, slot_stored};
 ghost use Rattle.ir_walk.specs.Walk.{Memory, end_of_walk};
 ghost use Rattle.ir_walk.specs.LoopFree.{IsLoopFree, AreLengths};
 ghost use Rattle.ir_resolve.specs.Resolved.{code_of, program_of};
@@ -33,7 +36,7 @@ ghost use Rattle.ir_value.specs.Numbers as numbers;
 ghost use Rattle.ir_value.specs.Numbers.{is_width};
 ghost use Rattle.ir_value.specs.Pointers as pointers;
 ghost use Rattle.ir_value.specs.Intrinsics as intrinsics;
-ghost use Rattle.ir_kernel.specs.Typed.{is_of, MakesOf, IsValueOf, IsReady};
+ghost use Rattle.ir_kernel.specs.Typed.{is_of, MakesOf, IsValueOf, IsSetTo, IsReady};
 ghost use Rattle.ir_kernel.specs.Orders.{AreOrders, AreOrdered, length_at};
 
 /// The code of a checked kernel has no loop and no recursion: edges go forward in the orders of its functions, calls go to functions
@@ -104,4 +107,17 @@ pub fn loads_are_never_lost()
     ensures { (m : ModuleView) (f : FunctionView) (memory : Memory) (objects : List Object) (rs : Registers) (over : Ty) (target : Val) (align : ℕ) (range : Option (List ℕ)) → IsReady m f rs target →
         AreBytes memory → access_fits (scope_of m f) over target align ≡ true → (IsPointerAccess (scope_of m f) (load over target align range) → ⊥) →
         ComputesOf m.types (kind_of (load over target align range)) (computed memory objects rs (act_of m f (load over target align range))) }
+{}
+
+/// What a store of a value into a slot of its type makes is what the slot's register holds, and a store of an integer of a width that
+/// memory has is written, or the run is stuck.
+pub fn stores_are_never_lost()
+    ensures slot { (t over : Ty) (align : ℕ) (v : Option Value) (h : Option Held) → IsValueOf t v → is_scalar t ≡ true → is_same t over ≡ true → IsSetTo (slot_of over) h → HoldsSlot over (slot_stored align v h) }
+    ensures memory { (w align : ℕ) (memory : Memory) (objects : List Object) (v a : Option Value) → is_memory_width w ≡ true → IsValueOf (integer w) v → IsValueOf pointer a →
+        IsWritten (stored memory objects (size_of (integer w)) (written_or align (integer w)) v a) }
+{}
+
+/// A part of a pair of a number and a bit is given.
+pub fn parts_are_never_lost()
+    ensures { (w part : ℕ) (t : Ty) (h : Option Held) → part ≤ 1 → is_same t (number_and_bit w) ≡ true → IsSetTo (pair_of t) h → GivesOf (if part == 0 then integer w else integer 1) (part_of part h) }
 {}
