@@ -8,3 +8,4 @@ pub mod OperandTypes
 pub mod StepTypes
 pub mod LoadTypes
 pub mod StoreTypes
+pub mod InstrFacts

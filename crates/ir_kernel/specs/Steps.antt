@@ -6,7 +6,9 @@ use Rattle.ir_ast.specs.Program.{Act, binary, compare, select, convert, freeze, 
 use Rattle.ir_type.specs.Rows.{operands, values}
 use Rattle.ir_type.specs.Shape.{keeps_notes}
 use Rattle.ir_type.specs.Whole.{Types, meant}
-use Rattle.ir_typing.specs.Fits.{whole_kind, instr_fits}
+use Rattle.ir_typing.specs.Fits.{scope_of, whole_kind, instr_fits}
+use Rattle.ir_typing.specs.Known.{is_known}
+use Rattle.ir_check.specs.Rules.{IsPointerAccess}
 use Rattle.ir_typing.specs.Registers.{Kind, slot_of}
 use Rattle.ir_value.specs.Numbers.{is_width}
 use Rattle.ir_machine.specs.declared.state.Held.TheVariants as held
@@ -80,3 +82,10 @@ abbrev pub HoldsSlot : Ty → Computed → Type 0
 HoldsSlot over (Sets h) = is_held (slot_of over) h ≡ true
 HoldsSlot over (Sticks r) = Unit
 HoldsSlot over _ = ⊥
+
+-- the instruction keeps its notes, its names are known, its operands fit, and it reads and writes no pointer outside slots
+pub record IsFit (m : ModuleView) (f : FunctionView) (before : List InstrView) (i : InstrView) : Type 0 where
+  pub noted : keeps_notes i.act ≡ true
+  pub known : is_known m f i.act ≡ true
+  pub fitting : instr_fits m f before i ≡ true
+  pub inside : IsPointerAccess (scope_of m f) i.act → ⊥

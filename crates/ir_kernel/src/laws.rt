@@ -1,9 +1,9 @@
 //! Laws of checked kernels and their runs. A function here does nothing: its contract is the law.
 
-ghost use Rattle.std.specs.Prelude.{Bool, ◌≡◌, ◌≢◌, ◌+◌, ◌<◌, ◌≤◌, ℕ, Option, List, Some, true, is_some, slice_get, bytes_eq, map, Contains, if◌then◌else◌, ◌==◌};
+ghost use Rattle.std.specs.Prelude.{Bool, ◌≡◌, ◌≢◌, ◌++◌, ◌∷◌, ◌+◌, ◌<◌, ◌≤◌, ℕ, Option, List, Some, true, is_some, slice_get, bytes_eq, map, Contains, if◌then◌else◌, ◌==◌};
 ghost use Rattle.std.specs.List.{IsDistinct, list_all};
 ghost use Rattle.ir_ast.specs.Plain.{Ty, integer, pointer, Val};
-ghost use Rattle.ir_ast.specs.Program.{load, InstrView, FunctionView, ModuleView};
+ghost use Rattle.ir_ast.specs.Program.{load, InstrView, BlockView, FunctionView, ModuleView};
 ghost use Rattle.ir_typing.specs.Intrinsics.{number_and_bit};
 ghost use Rattle.ir_layout.specs.Sizes.{size_of, written_or};
 ghost use Rattle.ir_machine.specs.declared.state.Held.{Held};
@@ -19,10 +19,11 @@ ghost use Rattle.ir_machine.specs.declared.state.End.TheVariants.{Unfinished};
 ghost use Rattle.ir_typing.specs.Fits.{fits, scope_of, access_fits};
 ghost use Rattle.ir_machine.specs.Values.{Registers, value_of, computed, arguments_pass, part_of};
 ghost use Rattle.ir_code.specs.declared.program.Object.{Object};
-ghost use Rattle.ir_typing.specs.Registers.{kind_of, slot_of, pair_of};
+ghost use Rattle.ir_typing.specs.Registers.{blocks_of, kind_of, slot_of, pair_of};
 ghost use Rattle.ir_resolve.specs.Acts.{act_of, typed};
-ghost use Rattle.ir_kernel.specs.Steps.{ComputesOf, is_computation, IsPrepared, IsFound, DoPass, AreBytes, IsWritten, HoldsSlot, GivesOf};
+ghost use Rattle.ir_kernel.specs.Steps.{ComputesOf, is_computation, IsPrepared, IsFound, DoPass, AreBytes, IsWritten, HoldsSlot, GivesOf, IsFit};
 ghost use Rattle.ir_resolve.specs.Operands.{input_of};
+ghost use Rattle.ir_type.specs.Items.{IsFunction};
 ghost use Rattle.ir_type.specs.Whole.{meant, is_scalar, is_same, is_memory_width};
 ghost use Rattle.ir_code.specs.declared.act.Case.{Case};
 ghost use Rattle.ir_machine.specs.Step.{run, start, branch_to, switch_to, stored, slot_stored};
@@ -120,4 +121,10 @@ pub fn stores_are_never_lost()
 /// A part of a pair of a number and a bit is given.
 pub fn parts_are_never_lost()
     ensures { (w part : ℕ) (t : Ty) (h : Option Held) → part ≤ 1 → is_same t (number_and_bit w) ≡ true → IsSetTo (pair_of t) h → GivesOf (if part == 0 then integer w else integer 1) (part_of part h) }
+{}
+
+/// Each instruction of a checked module keeps its notes, and falls under no rule of names, types and pointers.
+pub fn checked_instructions_fit()
+    ensures { (m : ModuleView) → checked.IsChecked m → (f : FunctionView) (b : BlockView) (before after : List InstrView) (i : InstrView) → IsFunction m f → Contains (blocks_of f) b →
+        b.instrs ≡ before ++ i ∷ after → IsFit m f before i }
 {}

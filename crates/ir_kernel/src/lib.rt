@@ -12,7 +12,7 @@ mod laws;
 pub use calling::run;
 pub use kernel::Kernel;
 pub use laws::{
-    checked_kernels_are_loop_free, computations_are_never_lost,
+    checked_instructions_fit, checked_kernels_are_loop_free, computations_are_never_lost,
     instructions_make_values_of_their_types, jumps_and_arguments_are_never_lost,
     loads_are_never_lost, operands_have_values_of_their_types, parts_are_never_lost,
     runs_of_kernels_end, stores_are_never_lost,
