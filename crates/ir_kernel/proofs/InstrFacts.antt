@@ -1,5 +1,5 @@
 -- Instructions of a checked module fit.
-use Rattle.std.proofs.Common.{◌≡◌, ◌⊎◌, inl, inr, ℕ, ◌<◌, ◌&&◌, Bool, true, false, Some, None, List, [], ◌∷◌, ◌++◌, length, refl, sym, ◌∙◌, ap, subst, arith}
+use Rattle.std.proofs.Common.{◌≡◌, ◌⊎◌, inl, inr, ◌&&◌, Bool, true, false, None, List, ◌∷◌, ◌++◌, length, refl, sym, ◌∙◌, ap, subst, arith}
 use Rattle.std.specs.Prelude.{All, Contains, flat_map, option_to_list}
 use Rattle.std.proofs.lemmas.Bool.{cases_Bool}
 use Rattle.std.proofs.lemmas.List.{append-nil}
@@ -7,11 +7,10 @@ use Rattle.std.proofs.lemmas.List.Elements.{Contains-append_right}
 use Rattle.ir_ast.specs.Program.{InstrView, BlockView, FunctionView, ModuleView}
 use Rattle.ir_type.specs.Items.{instr_item, IsItem, IsFunction, K8, K9, K13}
 use Rattle.ir_type.specs.Shape.{keeps_notes, sets_its_own, IsShapedBody}
-use Rattle.ir_typing.specs.Fits.{scope_of, instr_fits}
+use Rattle.ir_typing.specs.Fits.{instr_fits}
 use Rattle.ir_typing.specs.Known.{is_known}
 use Rattle.ir_typing.specs.Registers.{blocks_of}
 use Rattle.ir_check.specs.Checked.{IsChecked}
-use Rattle.ir_check.specs.Rules.{IsPointerAccess}
 use Rattle.ir_kernel.specs.Steps.{IsFit}
 use Rattle.ir_kernel.proofs.LoadTypes.{left_of}
 
