@@ -9,7 +9,6 @@ use Rattle.ir_ast.specs.Program.{FunctionView, ModuleView}
 use Rattle.ir_type.specs.Names.{entry_of, locals_in}
 use Rattle.ir_type.specs.Whole.{Types, meant, is_scalar, is_same, is_odd, is_memory_width}
 use Rattle.ir_type.specs.Whole as types
-use Rattle.ir_ast.specs.Table.{place_of}
 use Rattle.ir_type.proofs.Places.{no_place, at_place, same_second}
 use Rattle.ir_typing.specs.Fits.{Scope, scope_of, whole_kind, fits, fits_kind, slot_at, slot_kind, access_by, access_fits, is_align}
 use Rattle.ir_typing.specs.Places.{register_names}
@@ -17,7 +16,7 @@ use Rattle.ir_typing.specs.Registers as registers
 use Rattle.ir_typing.specs.Registers.{Kind, registers_of, kind_of}
 use Rattle.ir_check.specs.Rules.{IsPointerAccess}
 use Rattle.ir_layout.specs.Bytes.{object_of, number_at}
-use Rattle.ir_layout.specs.Sizes.{size_of, align_of, written_or}
+use Rattle.ir_layout.specs.Sizes.{align_of, written_or}
 use Rattle.ir_value.specs.declared.value.Value.{Value}
 use Rattle.ir_value.specs.declared.value.Value.TheVariants.{Number, Null, Address, Poison}
 use Rattle.ir_value.specs.declared.value.StuckReason.TheVariants.{U6, U7, U16}

@@ -5,7 +5,7 @@ ghost use Rattle.std.specs.List.{IsDistinct, list_all};
 ghost use Rattle.ir_ast.specs.Plain.{Ty, integer, pointer, Val};
 ghost use Rattle.ir_ast.specs.Program.{load, InstrView, BlockView, FunctionView, ModuleView};
 ghost use Rattle.ir_typing.specs.Intrinsics.{number_and_bit};
-ghost use Rattle.ir_layout.specs.Sizes.{size_of, written_or};
+ghost use Rattle.ir_layout.specs.Sizes.{written_or};
 ghost use Rattle.ir_machine.specs.declared.state.Held.{Held};
 ghost use Rattle.ir_check.specs.Rules.{IsPointerAccess};
 ghost use Rattle.ir_ast.specs.Table.{names_of};
@@ -20,7 +20,7 @@ ghost use Rattle.ir_typing.specs.Fits.{fits, scope_of, access_fits};
 ghost use Rattle.ir_machine.specs.Values.{Registers, value_of, computed, arguments_pass, part_of};
 ghost use Rattle.ir_code.specs.declared.program.Object.{Object};
 ghost use Rattle.ir_typing.specs.Registers.{blocks_of, kind_of, slot_of, pair_of};
-ghost use Rattle.ir_resolve.specs.Acts.{act_of, typed};
+ghost use Rattle.ir_resolve.specs.Acts.{act_of, bytes_of, typed};
 ghost use Rattle.ir_kernel.specs.Steps.{ComputesOf, is_computation, IsPrepared, IsFound, DoPass, AreBytes, IsWritten, HoldsSlot, GivesOf, IsFit};
 ghost use Rattle.ir_resolve.specs.Operands.{input_of};
 ghost use Rattle.ir_type.specs.Items.{IsFunction};
@@ -116,7 +116,7 @@ pub fn loads_are_never_lost()
 pub fn stores_are_never_lost()
     ensures slot { (t over : Ty) (align : ℕ) (v : Option Value) (h : Option Held) → IsValueOf t v → is_scalar t ≡ true → is_same t over ≡ true → IsSetTo (slot_of over) h → HoldsSlot over (slot_stored align v h) }
     ensures memory { (w align : ℕ) (memory : Memory) (objects : List Object) (v a : Option Value) → is_memory_width w ≡ true → IsValueOf (integer w) v → IsValueOf pointer a →
-        IsWritten (stored memory objects (size_of (integer w)) (written_or align (integer w)) v a) }
+        IsWritten (stored memory objects (bytes_of (integer w)) (written_or align (integer w)) v a) }
 {}
 
 /// A part of a pair of a number and a bit is given.
