@@ -1,12 +1,12 @@
 -- An operand that fits its type, and whose registers are set, has a value of the type.
-use Rattle.std.proofs.Common.{◌≡◌, ℕ, ◌-◌, ◌%◌, ◌^◌, ◌&&◌, Bool, true, false, not, Option, Some, None, List, [], ◌∷◌, ◌++◌, map, refl, sym, ◌∙◌, ap, subst, arith}
-use Rattle.std.specs.Prelude.{ℤ, pos, negsuc, Contains, is_some, unwrap_or, position, bytes_eq}
+use Rattle.std.proofs.Common.{◌≡◌, ℕ, zero, suc, ◌+◌, ◌^◌, ◌<◌, ◌≤◌, ◌==◌, ◌&&◌, Bool, true, false, not, if◌then◌else◌, Option, Some, None, List, [], ◌∷◌, ◌++◌, map, refl, sym, ◌∙◌, ap, subst, arith, pow_mono}
+use Rattle.std.specs.Prelude.{ℤ, pos, negsuc, min, nat_lt, Contains, is_some, unwrap_or, option_and_then, position, bytes_eq, slice_get}
 use Rattle.std.specs.List.{AllByRecursion}
 use Rattle.std.proofs.Math.Nat.{mod-lt}
 use Rattle.std.proofs.lemmas.Nat.{pow_pos}
 use Rattle.std.proofs.lemmas.Bool.{lt-ltb, eqb-true}
 use Rattle.std.proofs.lemmas.List.Elements.{Contains-append_left, Contains-append_right}
-use Rattle.ir_ast.specs.Plain.{Ty, nothing, integer, pointer, array, structure, packed, named, opaque, Val, Form, Indices, local, global, number, null, poison, address, form, no_indices, index_and}
+use Rattle.ir_ast.specs.Plain.{Ty, Tys, no_types, type_and, nothing, integer, pointer, array, structure, packed, named, opaque, Val, Form, Indices, local, global, number, null, poison, address, form, no_indices, index_and}
 use Rattle.ir_ast.specs.Program.{FunctionView, ModuleView}
 use Rattle.ir_ast.specs.Table.{names_of, place_of}
 use Rattle.ir_type.specs.Names.{entry_of, leaves_of, form_leaves_of, index_leaves_of, local_name, global_name}
@@ -24,10 +24,13 @@ use Rattle.ir_code.specs.declared.input.Move.{Move}
 use Rattle.ir_code.specs.declared.input.Move.TheVariants.{Begin}
 use Rattle.ir_code.specs.declared.input.Input.{Input}
 use Rattle.ir_layout.specs.Sizes.{size_of, field_offset}
+use Rattle.ir_layout.specs.Facts.{cut}
+use Rattle.ir_layout.specs.Offsets.{count_in, fields_in}
+use Rattle.ir_whole.specs.Questions.{width_of, field_in, field_of}
 use Rattle.ir_machine.specs.declared.state.Held.{Held}
 use Rattle.ir_machine.specs.declared.state.Held.TheVariants as held
 use Rattle.ir_machine.specs.Values.{Registers, held_at, value_held, base_value, size_at, stepped, moved, moved_all, value_of}
-use Rattle.ir_resolve.specs.Operands.{register_base, object_base, base_of, width_of, index_move, field_move, part_move, part_of, part_moves, moves_of, input_of, form_input}
+use Rattle.ir_resolve.specs.Operands.{register_base, object_base, base_of, index_move, field_move, field_index, offset_at, move_from, part_from, width_in, part_moves, moves_of, input_of, form_input}
 use Rattle.ir_walk.specs.Walk.{Memory}
 use Rattle.ir_kernel.specs.Typed.{is_of, IsValueOf, IsSetTo, Holds, IsReady}
 use Rattle.ir_kernel.proofs.ValueTypes.{begin_makes, step_makes}
@@ -42,6 +45,23 @@ right_of false b e = absurd cc
 
 no_option : {A : Type 0} {X : Type 0} (x : X) → None ≡ Some x → A
 no_option x e = absurd cc
+
+-- ---- fields
+
+-- a choice that comes out was made
+chosen : {A B : Type 0} (b : Bool) (a : A) (o : Option B) (u : B) → (if b then o else None) ≡ Some u → ((if b then Some a else None) ≡ Some a) × (o ≡ Some u)
+chosen true a o u e = (refl, e)
+chosen false a o u e = no_option u e
+
+one_more : (k n : ℕ) → nat_lt k n ≡ nat_lt (suc k) (1 + n)
+one_more k n = grind arith
+
+field_known : (ts : Tys) (k : ℕ) (u : Ty) → slice_get (list_of ts) k ≡ Some u → (field_in k ts ≡ Some u) × (nat_lt k (count_in ts) ≡ true)
+field_known no_types k u e = no_option u e
+field_known (type_and t ts) zero u e = (e, grind arith)
+field_known (type_and t ts) (suc k) u e =
+    let p = field_known ts k u e in
+    (p.0, sym (one_more k (count_in ts)) ∙ p.1)
 
 -- ---- registers
 
@@ -142,9 +162,19 @@ module _ (m : ModuleView) (f : FunctionView) (memory : Memory) (rs : Registers) 
   pointer_only P (named y) e x = absurd cc
   pointer_only P opaque e x = absurd cc
 
-  number_holds : (t : Ty) (n : ℤ) → fits_number t n ≡ true → IsValueOf t (base_value rs (base_of m f t (number n)))
-  number_holds (integer w) (pos n) e = lt-ltb (n % 2 ^ w) (2 ^ w) (mod-lt n (pow_pos w))
-  number_holds (integer w) (negsuc n) e = lt-ltb (2 ^ w - 1 - n % 2 ^ w) (2 ^ w) (let p = pow_pos w in omega (arith, p))
+  modulo_below : (w : ℕ) (n : ℤ) → modulo w n < 2 ^ w
+  modulo_below w (pos n) = mod-lt n (pow_pos w)
+  modulo_below w (negsuc n) = let p = pow_pos w in omega (arith, p)
+
+  number_below : (w : ℕ) (n : ℤ) → modulo (min w 64) n < 2 ^ w
+  number_below w n =
+      let few : min w 64 ≤ w = grind arith in
+      let own = modulo_below (min w 64) n in
+      let all : 2 ^ min w 64 ≤ 2 ^ w = pow_mono few in
+      omega (arith, own, all)
+
+  number_holds : (t : Ty) (n : ℤ) → fits_number t n ≡ true → IsValueOf t (base_value rs (base_of m f (width_of t) (number n)))
+  number_holds (integer w) n e = lt-ltb (modulo (min w 64) n) (2 ^ w) (number_below w n)
   number_holds t n e = absurd cc
 
   poison_holds : (t : Ty) → is_scalar t ≡ true → is_of t Poison ≡ true
@@ -156,7 +186,7 @@ module _ (m : ModuleView) (f : FunctionView) (memory : Memory) (rs : Registers) 
   is_form (address a) = true
   is_form v = false
 
-  base_holds : (t : Ty) (v : Val) → is_form v ≡ false → AreGood (leaves_of v) → fits s t v ≡ true → IsValueOf t (base_value rs (base_of m f t v))
+  base_holds : (t : Ty) (v : Val) → is_form v ≡ false → AreGood (leaves_of v) → fits s t v ≡ true → IsValueOf t (base_value rs (base_of m f (width_of t) v))
   base_holds t (local x) n good e = local_holds t x (one (local x) good) e
   base_holds t (global x) n good e = pointer_only (λ t. IsValueOf t (base_value rs (object_base (position (bytes_eq x) (names_of m.globals))))) t e (global_holds x (one (global x) good))
   base_holds t (number i) n good e = number_holds t i e
@@ -166,7 +196,7 @@ module _ (m : ModuleView) (f : FunctionView) (memory : Memory) (rs : Registers) 
 
   -- ---- steps
 
-  index_holds : (t : Ty) (v : Val) → is_integer t ≡ true → AreGood (leaves_of v) → fits s t v ≡ true → IsValueOf t (base_value rs (base_of m f t v))
+  index_holds : (t : Ty) (v : Val) → is_integer t ≡ true → AreGood (leaves_of v) → fits s t v ≡ true → IsValueOf t (base_value rs (base_of m f (width_of t) v))
   index_holds t (local x) n good e = base_holds t (local x) refl good e
   index_holds t (global x) n good e = base_holds t (global x) refl good e
   index_holds t (number i) n good e = base_holds t (number i) refl good e
@@ -175,28 +205,41 @@ module _ (m : ModuleView) (f : FunctionView) (memory : Memory) (rs : Registers) 
   index_holds (integer w) (address a) n good e = absurd cc
   index_holds t (address a) n good e = absurd cc
 
-  goes_index : (inbounds : Bool) (each : ℕ) (t : Ty) (v : Val) → is_integer t ≡ true → AreGood (leaves_of v) → fits s t v ≡ true → Goes memory rs (index_move m f inbounds each t v)
-  goes_index inbounds each t v n good e a x = index_goes memory rs inbounds (width_of t) each t (base_value rs (base_of m f t v)) a (index_holds t v n good e)
+  goes_index : (inbounds : Bool) (each : ℕ) (t : Ty) (v : Val) → is_integer t ≡ true → AreGood (leaves_of v) → fits s t v ≡ true → Goes memory rs (index_move m f inbounds each (width_of t) v)
+  goes_index inbounds each t v n good e a x = index_goes memory rs inbounds (unwrap_or (width_of t) 0) each t (base_value rs (base_of m f (width_of t) v)) a (index_holds t v n good e)
 
-  field_goes : (inbounds : Bool) (t : Ty) (fields : List Ty) (over : Ty) (v : Val) (u : Ty) → field_at fields over v ≡ Some u → Goes memory rs (field_move inbounds t v)
-  field_goes inbounds t fields (integer w) (number n) u e a x = index_goes memory rs inbounds 64 (field_offset t (modulo 32 n)) (integer 64) (Some (Number 1)) a refl
-  field_goes inbounds t fields over v u e a x = absurd cc
+  -- the field of a struct that an index chooses
+  record IsField (ts : Tys) (over : Ty) (v : Val) (u : Ty) : Type 0 where
+    pub place : ℕ
+    pub chosen : field_index (width_in m over) v ≡ Some place
+    pub is : field_in place ts ≡ Some u
+    pub below : nat_lt place (count_in ts) ≡ true
 
-  part_goes : (inbounds : Bool) (t over : Ty) (v : Val) (u : Ty) → part_at t over v ≡ Some u → ((each : ℕ) → Goes memory rs (index_move m f inbounds each (meant m.types over) v))
-      → Goes memory rs (part_move m f inbounds t (meant m.types over) v)
-  part_goes inbounds (array n t) over v u e go = go (size_of t)
-  part_goes inbounds (structure ts) over v u e go = field_goes inbounds (structure ts) (list_of ts) over v u e
-  part_goes inbounds (packed ts) over v u e go = field_goes inbounds (packed ts) (list_of ts) over v u e
+  field_there : (ts : Tys) (over : Ty) (v : Val) (u : Ty) → field_at (list_of ts) over v ≡ Some u → IsField ts over v u
+  field_there ts (integer w) (number n) u e =
+      let c = chosen (w == 32) (modulo 32 n) (slice_get (list_of ts) (modulo 32 n)) u e in
+      let known = field_known ts (modulo 32 n) u c.1 in
+      record { place = modulo 32 n; chosen = c.0; is = known.0; below = known.1 }
+  field_there ts over v u e = absurd cc
+
+  field_goes : (inbounds : Bool) (t over : Ty) (v : Val) (k : ℕ) → field_index (width_in m over) v ≡ Some k → nat_lt k (fields_in t) ≡ true
+      → Goes memory rs (field_move inbounds (option_and_then (offset_at t) (field_index (width_in m over) v)))
+  field_goes inbounds t over v k e l =
+      subst (λ o. Goes memory rs (field_move inbounds (option_and_then (offset_at t) o))) (sym e)
+      (subst (λ b. Goes memory rs (field_move inbounds (if b then Some (cut (field_offset t k)) else None))) (sym l)
+      (λ a x. index_goes memory rs inbounds 64 (cut (field_offset t k)) (integer 64) (Some (Number 1)) a refl))
+
+  part_goes : (inbounds : Bool) (t over : Ty) (v : Val) (u : Ty) → part_at t over v ≡ Some u → ((each : ℕ) → Goes memory rs (index_move m f inbounds each (width_in m over) v))
+      → Goes memory rs (move_from m f inbounds (Some t) (width_in m over) v)
+  part_goes inbounds (array n t) over v u e go = go (cut (size_of t))
+  part_goes inbounds (structure ts) over v u e go = let k = field_there ts over v u e in field_goes inbounds (structure ts) over v k.place k.chosen k.below
+  part_goes inbounds (packed ts) over v u e go = let k = field_there ts over v u e in field_goes inbounds (packed ts) over v k.place k.chosen k.below
   part_goes inbounds t over v u e go = absurd cc
 
-  field_same : (fields : List Ty) (over : Ty) (v : Val) (u : Ty) → field_at fields over v ≡ Some u → field_at fields (meant m.types over) v ≡ Some u
-  field_same fields (integer w) v u e = e
-  field_same fields over v u e = absurd cc
-
-  part_same : (t over : Ty) (v : Val) (u : Ty) → part_at t over v ≡ Some u → part_of t (meant m.types over) v ≡ Some u
+  part_same : (t over : Ty) (v : Val) (u : Ty) → part_at t over v ≡ Some u → part_from (Some t) (width_in m over) v ≡ Some u
   part_same (array n t) over v u e = e
-  part_same (structure ts) over v u e = field_same (list_of ts) over v u e
-  part_same (packed ts) over v u e = field_same (list_of ts) over v u e
+  part_same (structure ts) over v u e = let k = field_there ts over v u e in ap (option_and_then (λ k. field_of k (structure ts))) k.chosen ∙ k.is
+  part_same (packed ts) over v u e = let k = field_there ts over v u e in ap (option_and_then (λ k. field_of k (packed ts))) k.chosen ∙ k.is
   part_same t over v u e = absurd cc
 
   some_part : (o : Option Ty) (is : Indices) → steps o is ≡ true → (u : Ty) × (o ≡ Some u)
@@ -233,20 +276,20 @@ module _ (m : ModuleView) (f : FunctionView) (memory : Memory) (rs : Registers) 
       let others : AreGood (index_leaves_of is) = λ l c. good l (Contains-append_right (leaves_of v) (index_leaves_of is) l c) in
       let told : steps (Some (meant m.types over)) is ≡ true = subst (λ u. steps (Some u) is ≡ true) (sym same) (subst (λ o. steps o is ≡ true) p.1 e) in (
         begin_goes memory rs inbounds,
-        (goes_index inbounds (size_of (meant m.types over)) (meant m.types t) v whole_index own fitting, parts_go inbounds is (meant m.types over) told later others),
+        (goes_index inbounds (cut (size_of (meant m.types over))) (meant m.types t) v whole_index own fitting, parts_go inbounds is (meant m.types over) told later others),
       )
 
   -- ---- operands
 
   mutual
-    input_holds : (t : Ty) (v : Val) → AreGood (leaves_of v) → fits s t v ≡ true → IsValueOf t (value_of memory rs (input_of m f t v))
+    input_holds : (t : Ty) (v : Val) → AreGood (leaves_of v) → fits s t v ≡ true → IsValueOf t (value_of memory rs (input_of m f (width_of t) v))
     input_holds t (address a) good e =
         pointer_only (λ t. IsValueOf t (value_of memory rs (form_input m f a))) t (left_of (types.is_pointer t) (form_fits s a) e) (form_holds a good (right_of (types.is_pointer t) (form_fits s a) e))
-    input_holds t (local x) good e = no_moves memory rs t (base_value rs (base_of m f t (local x))) (base_holds t (local x) refl good e)
-    input_holds t (global x) good e = no_moves memory rs t (base_value rs (base_of m f t (global x))) (base_holds t (global x) refl good e)
-    input_holds t (number i) good e = no_moves memory rs t (base_value rs (base_of m f t (number i))) (base_holds t (number i) refl good e)
-    input_holds t null good e = no_moves memory rs t (base_value rs (base_of m f t null)) (base_holds t null refl good e)
-    input_holds t poison good e = no_moves memory rs t (base_value rs (base_of m f t poison)) (base_holds t poison refl good e)
+    input_holds t (local x) good e = no_moves memory rs t (base_value rs (base_of m f (width_of t) (local x))) (base_holds t (local x) refl good e)
+    input_holds t (global x) good e = no_moves memory rs t (base_value rs (base_of m f (width_of t) (global x))) (base_holds t (global x) refl good e)
+    input_holds t (number i) good e = no_moves memory rs t (base_value rs (base_of m f (width_of t) (number i))) (base_holds t (number i) refl good e)
+    input_holds t null good e = no_moves memory rs t (base_value rs (base_of m f (width_of t) null)) (base_holds t null refl good e)
+    input_holds t poison good e = no_moves memory rs t (base_value rs (base_of m f (width_of t) poison)) (base_holds t poison refl good e)
 
     form_holds : (a : Form) → AreGood (form_leaves_of a) → form_fits s a ≡ true → IsValueOf pointer (value_of memory rs (form_input m f a))
     form_holds (form flags over base is) good e =
@@ -255,11 +298,11 @@ module _ (m : ModuleView) (f : FunctionView) (memory : Memory) (rs : Registers) 
         let two = left_of (fits s pointer base && indices_fit s is) (not (has_odd (meant m.types over))) three in
         let first = input_holds pointer base (λ l c. good l (Contains-append_left (leaves_of base) (index_leaves_of is) l c)) (left_of (fits s pointer base) (indices_fit s is) two) in
         let moves = moves_go flags.inbounds over is stepping (right_of (fits s pointer base) (indices_fit s is) two) (λ l c. good l (Contains-append_right (leaves_of base) (index_leaves_of is) l c)) in
-        let i : Input = input_of m f pointer base in
+        let i : Input = input_of m f None base in
         subst (IsValueOf pointer) (sym (moved_on memory rs i.moves (moves_of m f flags.inbounds (meant m.types over) is) (base_value rs i.base)))
         (all_go memory rs (moves_of m f flags.inbounds (meant m.types over) is) (value_of memory rs i) moves first)
 
-  pub operand_holds : (t : Ty) (v : Val) → IsReady m f rs v → fits s t v ≡ true → IsValueOf t (value_of memory rs (input_of m f t v))
+  pub operand_holds : (t : Ty) (v : Val) → IsReady m f rs v → fits s t v ≡ true → IsValueOf t (value_of memory rs (input_of m f (width_of t) v))
   operand_holds t v ready e = input_holds t v good e
     where
       good : AreGood (leaves_of v)

@@ -24,6 +24,7 @@ use Rattle.ir_machine.specs.declared.state.Computed.{Computed}
 use Rattle.ir_machine.specs.declared.state.Target.TheVariants as target
 use Rattle.ir_machine.specs.Step.{branch_to, switch_to}
 use Rattle.ir_machine.specs.Values.{Registers, tried, arguments_pass, value_of, computed_by, on_one, on_two, on_three, given, compare_sized, computed, size_at}
+use Rattle.ir_whole.specs.Questions.{width_of}
 use Rattle.ir_resolve.specs.Operands.{input_of}
 use Rattle.ir_resolve.specs.Acts.{act_of, typed}
 use Rattle.ir_walk.specs.Walk.{Memory}
@@ -73,7 +74,7 @@ module _ (m : ModuleView) (f : FunctionView) (memory : Memory) (objects : List O
   s = scope_of m f
 
   abbrev input : Ty → Val → Option Value
-  input t v = value_of memory rs (input_of m f t v)
+  input t v = value_of memory rs (input_of m f (width_of t) v)
 
   abbrev gives : plain.Act → Type 0
   gives a = ComputesOf m.types (kind_of a) (computed memory objects rs (act_of m f a))

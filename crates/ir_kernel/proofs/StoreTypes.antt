@@ -6,7 +6,7 @@ use Rattle.ir_type.specs.Whole.{is_scalar, is_same, is_memory_width}
 use Rattle.ir_typing.specs.Intrinsics.{number_and_bit}
 use Rattle.ir_typing.specs.Registers as registers
 use Rattle.ir_layout.specs.Bytes.{object_of}
-use Rattle.ir_layout.specs.Sizes.{size_of, written_or}
+use Rattle.ir_layout.specs.Sizes.{written_or}
 use Rattle.ir_value.specs.declared.value.Value.{Value}
 use Rattle.ir_value.specs.declared.value.Value.TheVariants.{Number, Null, Address, Poison}
 use Rattle.ir_value.specs.declared.value.StuckReason.TheVariants.{U6, U7, U13}
@@ -21,6 +21,7 @@ use Rattle.ir_machine.specs.declared.state.Computed.TheVariants.{Sticks}
 use Rattle.ir_machine.specs.declared.state.Written.TheVariants as written
 use Rattle.ir_machine.specs.Values.{object_at, reached, is_aligned, part_of}
 use Rattle.ir_machine.specs.Step.{put_value, store_to, stored, put_slot, slot_stored}
+use Rattle.ir_resolve.specs.Acts.{bytes_of}
 use Rattle.ir_walk.specs.Walk.{Memory}
 use Rattle.ir_kernel.specs.Typed.{is_of, are_parts, IsValueOf, IsSetTo}
 use Rattle.ir_kernel.specs.Steps.{IsWritten, HoldsSlot, GivesOf}
@@ -98,11 +99,11 @@ written_align zero w e = width_cases (λ w. nat_le 1 (written_or zero (integer w
 written_align (suc n) w e = le-leb 1 (suc n) (omega arith)
 
 pub memory_written : (w align : ℕ) (memory : Memory) (objects : List Object) (v a : Option Value) → is_memory_width w ≡ true → IsValueOf (integer w) v → IsValueOf pointer a
-    → IsWritten (stored memory objects (size_of (integer w)) (written_or align (integer w)) v a)
+    → IsWritten (stored memory objects (bytes_of (integer w)) (written_or align (integer w)) v a)
 memory_written w align memory objects None a e x y = absurd x
 memory_written w align memory objects (Some v) None e x y = absurd y
 memory_written w align memory objects (Some v) (Some a) e x y =
-    width_cases (λ w. nat_le 1 (written_or align (integer w)) ≡ true → is_of (integer w) v ≡ true → IsWritten (stored memory objects (size_of (integer w)) (written_or align (integer w)) (Some v) (Some a))) w e
+    width_cases (λ w. nat_le 1 (written_or align (integer w)) ≡ true → is_of (integer w) v ≡ true → IsWritten (stored memory objects (bytes_of (integer w)) (written_or align (integer w)) (Some v) (Some a))) w e
     (λ l h. reached_written objects 1 v (put_written 8 1 v refl refl h) memory (written_or align (integer 8)) a l y)
     (λ l h. reached_written objects 2 v (put_written 16 2 v refl refl h) memory (written_or align (integer 16)) a l y)
     (λ l h. reached_written objects 4 v (put_written 32 4 v refl refl h) memory (written_or align (integer 32)) a l y)

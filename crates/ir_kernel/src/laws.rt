@@ -5,7 +5,7 @@ ghost use Rattle.std.specs.List.{IsDistinct, list_all};
 ghost use Rattle.ir_ast.specs.Plain.{Ty, integer, pointer, Val};
 ghost use Rattle.ir_ast.specs.Program.{load, InstrView, BlockView, FunctionView, ModuleView};
 ghost use Rattle.ir_typing.specs.Intrinsics.{number_and_bit};
-ghost use Rattle.ir_layout.specs.Sizes.{size_of, written_or};
+ghost use Rattle.ir_layout.specs.Sizes.{written_or};
 ghost use Rattle.ir_machine.specs.declared.state.Held.{Held};
 ghost use Rattle.ir_check.specs.Rules.{IsPointerAccess};
 ghost use Rattle.ir_ast.specs.Table.{names_of};
@@ -20,10 +20,11 @@ ghost use Rattle.ir_typing.specs.Fits.{fits, scope_of, access_fits};
 ghost use Rattle.ir_machine.specs.Values.{Registers, value_of, computed, arguments_pass, part_of};
 ghost use Rattle.ir_code.specs.declared.program.Object.{Object};
 ghost use Rattle.ir_typing.specs.Registers.{blocks_of, kind_of, slot_of, pair_of};
-ghost use Rattle.ir_resolve.specs.Acts.{act_of, typed};
+ghost use Rattle.ir_resolve.specs.Acts.{act_of, bytes_of, typed};
 ghost use Rattle.ir_kernel.specs.Steps.{ComputesOf, is_computation, IsPrepared, IsFound, DoPass, AreBytes, IsWritten, HoldsSlot, GivesOf, IsFit};
 ghost use Rattle.ir_resolve.specs.Operands.{input_of};
 ghost use Rattle.ir_type.specs.Items.{IsFunction};
+ghost use Rattle.ir_whole.specs.Questions.{width_of};
 ghost use Rattle.ir_type.specs.Whole.{meant, is_scalar, is_same, is_memory_width};
 ghost use Rattle.ir_code.specs.declared.act.Case.{Case};
 ghost use Rattle.ir_machine.specs.Step.{run, start, branch_to, switch_to, stored, slot_stored};
@@ -81,7 +82,7 @@ pub fn instructions_make_values_of_their_types()
 /// An operand that fits a whole type, whose registers hold what their kinds ask and whose globals are known, has a value of the type.
 pub fn operands_have_values_of_their_types()
     ensures { (m : ModuleView) (f : FunctionView) (memory : Memory) (rs : Registers) (t : Ty) (v : Val) → IsReady m f rs v → fits (scope_of m f) t v ≡ true →
-        IsValueOf t (value_of memory rs (input_of m f t v)) }
+        IsValueOf t (value_of memory rs (input_of m f (width_of t) v)) }
 {}
 
 /// Where its operands are ready, a computation of a checked kernel gives its register what the register's kind asks, or the run is
@@ -95,9 +96,9 @@ pub fn computations_are_never_lost()
 /// Where their operands are ready, a branch and a switch find a block, and the arguments of a call pass, or the run is stuck.
 pub fn jumps_and_arguments_are_never_lost()
     ensures branch { (m : ModuleView) (f : FunctionView) (memory : Memory) (objects : List Object) (rs : Registers) (c : Val) (taken other : ℕ) → IsReady m f rs c →
-        fits (scope_of m f) (integer 1) c ≡ true → IsFound (branch_to (value_of memory rs (input_of m f (integer 1) c)) taken other) }
+        fits (scope_of m f) (integer 1) c ≡ true → IsFound (branch_to (value_of memory rs (input_of m f (Some 1) c)) taken other) }
     ensures switch { (m : ModuleView) (f : FunctionView) (memory : Memory) (objects : List Object) (rs : Registers) (w : ℕ) (on : Val) (cases : List Case) (default : ℕ) → IsReady m f rs on →
-        fits (scope_of m f) (integer w) on ≡ true → IsFound (switch_to (value_of memory rs (input_of m f (integer w) on)) cases default) }
+        fits (scope_of m f) (integer w) on ≡ true → IsFound (switch_to (value_of memory rs (input_of m f (Some w) on)) cases default) }
     ensures arguments { (m : ModuleView) (f : FunctionView) (memory : Memory) (objects : List Object) (rs : Registers) (arguments : List (Ty × Val)) →
         list_all (λ (p : Ty × Val). fits (scope_of m f) (meant m.types p.0) p.1) arguments ≡ true → ((p : Ty × Val) → Contains arguments p → IsReady m f rs p.1) →
         DoPass (arguments_pass memory rs (map (λ (a : Ty × Val). typed m f a.0 a.1) arguments)) }
@@ -115,7 +116,7 @@ pub fn loads_are_never_lost()
 pub fn stores_are_never_lost()
     ensures slot { (t over : Ty) (align : ℕ) (v : Option Value) (h : Option Held) → IsValueOf t v → is_scalar t ≡ true → is_same t over ≡ true → IsSetTo (slot_of over) h → HoldsSlot over (slot_stored align v h) }
     ensures memory { (w align : ℕ) (memory : Memory) (objects : List Object) (v a : Option Value) → is_memory_width w ≡ true → IsValueOf (integer w) v → IsValueOf pointer a →
-        IsWritten (stored memory objects (size_of (integer w)) (written_or align (integer w)) v a) }
+        IsWritten (stored memory objects (bytes_of (integer w)) (written_or align (integer w)) v a) }
 {}
 
 /// A part of a pair of a number and a bit is given.
