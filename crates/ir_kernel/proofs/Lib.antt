@@ -1,0 +1,11 @@
+pub mod CodeActs
+pub mod CodePlaces
+pub mod CodeOrders
+pub mod Links
+pub mod CallLaws
+pub mod ValueTypes
+pub mod OperandTypes
+pub mod StepTypes
+pub mod LoadTypes
+pub mod StoreTypes
+pub mod InstrFacts
