@@ -59,7 +59,8 @@ def copies(mebibytes):
                 seen.add(line)
                 parts.append(line)
     out, k, length = ['\n'.join(parts) + '\n'], 0, 0
-    while length < mebibytes << 20:
+    room = (mebibytes << 20) - 2 * sum(map(len, bodies)) - len(out[0]) - 4096
+    while length < room:
         for body in bodies:
             named = re.sub(r'^(define[^@]*@[A-Za-z0-9_.]+)', rf'\g<1>_{k}', body)
             out.append(named)
@@ -87,5 +88,5 @@ def measured(title, text):
 for n in (count // 4, count):
     measured(f'a function of about {n} instructions', ladder(n))
 for n in (max(1, size // 4), size):
-    measured(f'{n} MiB of functions', copies(n)[:])
+    measured(f'{n} MiB of functions', copies(n))
 TIME

@@ -70,6 +70,6 @@ def used(path):
 for kind, path in (('plain', f'{work}/text1.ll'), ('picked', f'{work}/text0.ll')):
     count = sum(1 for _ in open(path))
     shown, seconds = used(path)
-    assert shown.endswith(f': 0 types, {count} globals, 0 functions, 0 ranges\n'), shown
+    assert shown.endswith(f': 0 types, {count} globals, 0 functions, 0 ranges: holds\n'), shown
     print(f'{count} {kind} names: {seconds:.2f} s')
 TIME
