@@ -1,9 +1,9 @@
--- Where the arguments, the rows and the globals of a state block stand in their lists.
+-- Where the arguments and the globals of a state block stand in their lists.
 
 use Rattle.std.proofs.Common.{ℕ, ◌≡◌, ◌≤◌, ◌<◌, ◌+◌, List, [], ◌∷◌, ◌++◌, min, length, length-append, get_or, ap, sym, ◌∙◌, arith, zero-add}
-use Rattle.std.proofs.lemmas.List.FromFn.{get_or-enumerate_from, length-enumerate_from, get_or-range_with_len, length-range_with_len}
+use Rattle.std.proofs.lemmas.List.FromFn.{get_or-enumerate_from, length-enumerate_from}
 use Rattle.std.proofs.lemmas.Slice.Zip.{length-zip, get_or-zip}
-use Rattle.std.specs.List.{enumerate_from, range_with_len, zip}
+use Rattle.std.specs.List.{enumerate_from, zip}
 
 -- There are as many numbered arguments as arguments.
 pub arg_within : (args : List ℕ) (i : ℕ) → i < length args → i < length (enumerate_from 0 args)
@@ -15,16 +15,6 @@ args_end args i past = omega (arith, past, length-enumerate_from 0 args)
 -- An argument stands beside its place.
 pub arg_at : (args : List ℕ) (i : ℕ) → i < length args → (i, get_or args i 0) ≡ get_or (enumerate_from 0 args) i (0, 0)
 arg_at args i within = sym (get_or-enumerate_from 0 args i (0, 0) within ∙ ap (λ n. (n, get_or args i 0)) (zero-add i))
-
--- Row k is the k-th.
-pub row_within : (n m k : ℕ) → n ≡ m → k < n → k < length (range_with_len 0 m)
-row_within n m k is within = omega (arith, is, within, length-range_with_len 0 m)
-
-pub rows_end : (n m k : ℕ) → n ≡ m → n ≤ k → length (range_with_len 0 m) ≤ k
-rows_end n m k is past = omega (arith, is, past, length-range_with_len 0 m)
-
-pub row_at : (n m k : ℕ) → n ≡ m → k < n → k ≡ get_or (range_with_len 0 m) k 0
-row_at n m k is within = sym (get_or-range_with_len 0 m k 0 (omega (arith, is, within)) ∙ zero-add k)
 
 -- A global stands beside its byte.
 pub pair_within : {K V : Type 0} (ks : List K) (vs : List V) (i : ℕ) → i < length ks → i < length vs → i < length (zip ks vs)

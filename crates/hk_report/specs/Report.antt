@@ -1,9 +1,8 @@
 -- The report of a verification: the line of the opening, and then the lines of each verdict.
 
-use Rattle.std.specs.Prelude.{ℕ, ◌*◌, ◌==◌, if◌then◌else◌, List, [], ◌∷◌, ◌++◌, Option, Some, None, length, take, drop, slice_get, codes}
-use Rattle.std.specs.List.{flat_map, list_all, zip, enumerate_from, range_with_len}
+use Rattle.std.specs.Prelude.{ℕ, List, [], ◌∷◌, ◌++◌, Option, Some, None, slice_get, codes}
+use Rattle.std.specs.List.{flat_map, zip, enumerate_from}
 use Rattle.std.specs.Fmt.{decimal}
-use Rattle.std.specs.Int.{div_ceil}
 use Rattle.ir_thin.specs.declared.tree.Kernel.{Kernel}
 use Rattle.spec_thin.specs.declared.tree.Spec.{Spec}
 use Rattle.spec_thin.specs.declared.tree.Field.{Field}
@@ -16,7 +15,8 @@ use Rattle.hk_report.specs.declared.verdict.Verdict.{Verdict}
 use Rattle.hk_report.specs.declared.verdict.Verdict.TheVariants.{Accepted, Rejected, Memory}
 use Rattle.hk_report.specs.declared.verdict.InitVerdict.{InitVerdict}
 use Rattle.hk_report.specs.declared.verdict.InitVerdict.TheVariants.{NotRun, Holds}
-use Rattle.hk_report.specs.Texts.{line, name_text, hex_text}
+use Rattle.hk_rows.specs.Texts.{line}
+use Rattle.hk_rows.specs.Rows.{global_text}
 
 -- What is said of the initial memory: nothing where it was not tested.
 abbrev pub init_text : InitVerdict → List ℕ
@@ -39,22 +39,6 @@ arg_text arg = line (codes "  arg " ∷ decimal arg.0 ∷ codes " = " ∷ decima
 
 abbrev pub args_text : List ℕ → List ℕ
 args_text args = flat_map arg_text (enumerate_from 0 args)
-
--- The line of a row of a global: up to 16 bytes from an offset on.
-abbrev pub row_line : List ℕ → ℕ → List ℕ → List ℕ
-row_line name offset row = line (codes "  @" ∷ name_text name ∷ codes "+" ∷ decimal offset ∷ codes ": " ∷ hex_text row ∷ [])
-
--- A row of zeros alone is left out.
-abbrev pub row_text : List ℕ → ℕ → List ℕ → List ℕ
-row_text name offset row = if list_all (λ byte. byte == 0) row then [] else row_line name offset row
-
--- Row k of some bytes: those from 16 k on, at most 16.
-abbrev pub row_of : List ℕ → ℕ → List ℕ
-row_of bytes k = take 16 (drop (16 * k) bytes)
-
--- The rows of a global.
-abbrev pub global_text : List ℕ → List ℕ → List ℕ
-global_text name bytes = flat_map (λ k. row_text name (16 * k) (row_of bytes k)) (range_with_len 0 (div_ceil (length bytes) 16))
 
 -- The rows of a machine state: those of each global, in text order. A global of a thin kernel is one byte.
 abbrev pub memory_text : Kernel → List ℕ → List ℕ

@@ -1,14 +1,13 @@
 //! The lines of a report on a sink. They take no memory, and after a failed put nothing more is put.
-ghost use Rattle.std.specs.Prelude.{◌≡◌, ◌≤◌, ◌<◌, ◌^◌, ◌*◌, ◌++◌, length, OnOk, OnErr, slice_get, ◌==◌};
-ghost use Rattle.std.specs.List.{list_all};
+ghost use Rattle.std.specs.Prelude.{◌≡◌, ◌≤◌, ◌<◌, ◌^◌, ◌++◌, OnOk, OnErr, slice_get};
 ghost use Rattle.hk_io.specs.Faults.{Rose};
 ghost use Rattle.hk_io.specs.Shown.{shown_with, ShowsPrefix};
-ghost use Rattle.hk_report.specs.Report.{init_text, arg_text, args_text, row_line, row_text, row_of, global_text, memory_text, case_text, field_name, rejection_line, verdict_text};
+ghost use Rattle.hk_report.specs.Report.{init_text, arg_text, args_text, memory_text, case_text, field_name, rejection_line, verdict_text};
 
-use crate::line::{Part, put_line};
 use crate::verdict::{InitVerdict, Verdict};
 use hk_io::{Sink, SinkFault};
 use hk_replay::{Case, Obligation};
+use hk_rows::{Part, put_global, put_line};
 use ir_thin::tree::Kernel;
 use spec_thin::tree::{Spec, Transition};
 
@@ -56,82 +55,6 @@ pub fn put_args<O: Sink>(out: &mut O, args: &[u8]) -> Result<(), SinkFault>
 {
     for (place, arg) in args.iter().enumerate() {
         put_arg(out, place, *arg)?;
-    }
-    Ok(())
-}
-
-/// Puts the line of a row of a global.
-fn put_row_line<'x, O: Sink>(
-    out: &mut O,
-    name: &'x [u8],
-    offset: usize,
-    row: &'x [u8],
-) -> Result<(), SinkFault>
-    ensures whole { OnOk result (O.shown out.new ≡ shown_with (O.shown out.old) (row_line name.now offset row.now)) }
-    ensures cut { OnErr result (ShowsPrefix (O.shown out.old) (O.shown out.new) (row_line name.now offset row.now)) }
-    ensures failed { OnErr result (Rose (O.faults out.old) (O.faults out.new)) }
-    ensures still { OnOk result (O.faults out.new ≡ O.faults out.old) }
-    ensures later { O.faults out.old ≤ O.faults out.new }
-    ensures fits { O.faults out.new < 2 ^ 64 }
-{
-    let parts = [
-        Part::Text(b"  @"),
-        Part::Name(name),
-        Part::Text(b"+"),
-        Part::Decimal(offset as u64),
-        Part::Text(b": "),
-        Part::Hex(row),
-    ];
-    put_line(out, &parts)
-}
-
-/// Whether a row has zeros alone.
-fn is_zero(row: &[u8]) -> bool
-    ensures { result ≡ list_all (λ byte. byte == 0) row.now }
-{
-    row.iter().all(|byte| *byte == 0)
-}
-
-/// Puts a row of a global, where it has a byte that is not zero.
-fn put_row<'x, O: Sink>(
-    out: &mut O,
-    name: &'x [u8],
-    offset: usize,
-    row: &'x [u8],
-) -> Result<(), SinkFault>
-    ensures whole { OnOk result (O.shown out.new ≡ shown_with (O.shown out.old) (row_text name.now offset row.now)) }
-    ensures cut { OnErr result (ShowsPrefix (O.shown out.old) (O.shown out.new) (row_text name.now offset row.now)) }
-    ensures failed { OnErr result (Rose (O.faults out.old) (O.faults out.new)) }
-    ensures still { OnOk result (O.faults out.new ≡ O.faults out.old) }
-    ensures later { O.faults out.old ≤ O.faults out.new }
-    ensures fits { O.faults out.old < 2 ^ 64 → O.faults out.new < 2 ^ 64 }
-{
-    if is_zero(row) {
-        return Ok(());
-    }
-    put_row_line(out, name, offset, row)
-}
-
-/// Row `k` of some bytes: those from 16 k on, at most 16.
-fn row_at(bytes: &[u8], k: usize) -> &[u8]
-    requires { 16 * k < length bytes.now }
-    ensures { result.now ≡ row_of bytes.now k }
-{
-    let rest = &bytes[16 * k..];
-    &rest[..rest.len().min(16)]
-}
-
-/// Puts the rows of a global.
-fn put_global<O: Sink>(out: &mut O, name: &[u8], bytes: &[u8]) -> Result<(), SinkFault>
-    ensures whole { OnOk result (O.shown out.new ≡ shown_with (O.shown out.old) (global_text name.now bytes.now)) }
-    ensures cut { OnErr result (ShowsPrefix (O.shown out.old) (O.shown out.new) (global_text name.now bytes.now)) }
-    ensures failed { OnErr result (Rose (O.faults out.old) (O.faults out.new)) }
-    ensures still { OnOk result (O.faults out.new ≡ O.faults out.old) }
-    ensures later { O.faults out.old ≤ O.faults out.new }
-    ensures fits { O.faults out.old < 2 ^ 64 → O.faults out.new < 2 ^ 64 }
-{
-    for k in 0..bytes.len().div_ceil(16) {
-        put_row(out, name, 16 * k, row_at(bytes, k))?;
     }
     Ok(())
 }

@@ -1,5 +1,5 @@
-//! What is shown of lines and verdicts on a sink in memory.
-use crate::{InitVerdict, Part, Verdict, put_args, put_init, put_line, put_memory, put_verdict};
+//! What is shown of verdicts on a sink in memory.
+use crate::{InitVerdict, Verdict, put_args, put_init, put_memory, put_verdict};
 use hk_io::{MemSink, PutList, SinkFault};
 use hk_replay::{Case, Obligation};
 use hk_seq::Seq;
@@ -119,23 +119,6 @@ fn parts_of_a_state_block_stand_alone(rt: HostRuntime) -> Result<(), Fail> {
         sink.bytes(),
         b"  arg 0 = 128\n  arg 1 = 7\n  @ticks+0: 01\n".as_slice()
     );
-    Ok(())
-}
-
-#[test]
-fn a_line_over_4096_bytes_is_put_in_pieces(rt: HostRuntime) -> Result<(), Fail> {
-    let alloc = rt.alloc();
-    let failed = Err(SinkFault::Failed { sent: 0 });
-    for (length, call, wanted, shown) in [
-        (4095, 2, Ok(()), 4096),
-        (4096, 2, failed, 4096),
-        (9000, 3, failed, 8192),
-    ] {
-        let long = vec![in alloc; b'x'; length]?;
-        let mut sink = failing(alloc, &[(call, 0)])?;
-        assert_eq!(rt; put_line(&mut sink, &[Part::Text(&long)]), wanted);
-        assert_eq!(rt; sink.bytes().len(), shown);
-    }
     Ok(())
 }
 

@@ -1,6 +1,6 @@
 use Rattle.std.specs.List.{enumerate_from}
 use Rattle.hk_report.specs.Report.{arg_text}
-use Rattle.hk_report.proofs.Adding.{on_err, shows_more, shows_all, pieces_cut}
+use Rattle.hk_rows.proofs.Adding.{on_err, shows_more, shows_all, pieces_cut}
 use Rattle.hk_report.proofs.Rows.{arg_within, arg_at, args_end}
 use Rattle.hk_report.proofs.report.put_args.Goals as goal
 

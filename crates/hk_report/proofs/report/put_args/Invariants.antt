@@ -1,6 +1,6 @@
 use Rattle.std.proofs.Common.{take}
 use Rattle.std.specs.List.{flat_map, enumerate_from}
-use Rattle.hk_report.specs.Lines.{Shows}
+use Rattle.hk_rows.specs.Lines.{Shows}
 use Rattle.hk_report.specs.Report.{arg_text}
 use Rattle.hk_report.proofs.report.put_args.Given as goal
 

@@ -1,5 +1,5 @@
 use Rattle.hk_report.specs.Report.{args_text, memory_text}
-use Rattle.hk_report.proofs.Adding.{err_behind}
+use Rattle.hk_rows.proofs.Adding.{err_behind}
 use Rattle.hk_report.proofs.report.put_block.Goals as goal
 
 pub returns-clause-cut : goal.returns-clause-cut

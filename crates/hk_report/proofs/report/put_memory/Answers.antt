@@ -1,8 +1,8 @@
 use Rattle.std.proofs.Common.{◌∷◌, [], length, rules}
 use Rattle.std.proofs.lemmas.Slice.Zip.{zip_turn, zip_end}
 use Rattle.std.specs.List.{zip}
-use Rattle.hk_report.specs.Report.{global_text}
-use Rattle.hk_report.proofs.Adding.{on_err, shows_next, shows_all, pieces_cut}
+use Rattle.hk_rows.specs.Rows.{global_text}
+use Rattle.hk_rows.proofs.Adding.{on_err, shows_next, shows_all, pieces_cut}
 use Rattle.hk_report.proofs.Rows.{pair_within, pair_at, pairs_end, one_longer}
 use Rattle.hk_report.proofs.report.put_memory.Goals as goal
 

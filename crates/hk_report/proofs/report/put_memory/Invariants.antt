@@ -1,7 +1,7 @@
 use Rattle.std.proofs.Common.{take, length, ◌∷◌, []}
 use Rattle.std.specs.List.{flat_map, zip}
-use Rattle.hk_report.specs.Lines.{Shows}
-use Rattle.hk_report.specs.Report.{global_text}
+use Rattle.hk_rows.specs.Lines.{Shows}
+use Rattle.hk_rows.specs.Rows.{global_text}
 use Rattle.hk_report.proofs.report.put_memory.Given as goal
 
 abbrev pub invariant-loop-global : goal.invariant-loop-global

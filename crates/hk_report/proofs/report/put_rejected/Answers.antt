@@ -1,6 +1,6 @@
 use Rattle.hk_io.proofs.Prefixes.{prefix_append}
 use Rattle.hk_report.specs.Report.{rejection_line, case_text}
-use Rattle.hk_report.proofs.Adding.{on_err, err_behind}
+use Rattle.hk_rows.proofs.Adding.{on_err, err_behind}
 use Rattle.hk_report.proofs.report.put_rejected.Goals as goal
 
 pub returns-in_err-put_rejection-clause-cut : goal.returns-in_err-put_rejection-clause-cut
