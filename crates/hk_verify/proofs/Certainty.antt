@@ -13,7 +13,7 @@ use Rattle.hk_report.specs.declared.verdict.Verdict.TheVariants.{Accepted, Rejec
 use Rattle.hk_decide.specs.Right.{IsRight}
 use Rattle.hk_verify.specs.declared.answer.Answer.{Answer}
 use Rattle.hk_verify.specs.declared.answer.TopFault.{TopFault}
-use Rattle.hk_verify.specs.declared.answer.TopFault.TheVariants.{Usage, Read, Long, Kernel as OfKernel, Spec as OfSpec, Cnf as OfCnf, Wide, Memory, Write}
+use Rattle.hk_verify.specs.declared.answer.TopFault.TheVariants.{Usage, Read, Long, Kernel as OfKernel, Spec as OfSpec, Cnf as OfCnf, Call as OfCall, Wide, Memory, Write}
 use Rattle.hk_verify.specs.Kernels.{IsKernelText}
 use Rattle.hk_verify.specs.Words.{IsVerify, HasNoForm}
 use Rattle.hk_verify.specs.Inputs.{Asked, ShelfView, IsLoaded, AreRead, asked, kernel_limit, spec_limit}
@@ -68,6 +68,7 @@ of_report sink kernel spec answer (Some (Long w)) h t v reports there here = abs
 of_report sink kernel spec answer (Some (OfKernel f)) h t v reports there here = absurd reports
 of_report sink kernel spec answer (Some (OfSpec f)) h t v reports there here = absurd reports
 of_report sink kernel spec answer (Some (OfCnf f)) h t v reports there here = absurd reports
+of_report sink kernel spec answer (Some (OfCall f)) h t v reports there here = absurd reports
 of_report sink kernel spec answer (Some (Wide w)) h t v reports there here = absurd reports
 of_report sink kernel spec answer (Some Memory) h t v reports there here = absurd reports
 

@@ -1,6 +1,6 @@
 -- Two loads, one after the other.
 
-use Rattle.std.proofs.Common.{ℕ, ◌≡◌, Option, List, [], ◌∷◌, refl, subst}
+use Rattle.std.proofs.Common.{ℕ, ◌≡◌, Option, Result, Ok, Err, IfErr, List, [], ◌∷◌, refl, subst}
 use Rattle.hk_io.specs.Held.{Files}
 use Rattle.hk_verify.specs.declared.answer.TopFault.{TopFault}
 use Rattle.hk_verify.specs.Inputs.{Asked, IsLoaded, IsLoadFault, IsLoadingFault, ShelfView, seen}
@@ -29,3 +29,8 @@ second_fails held now before between after first second text fault same still lo
   loaded = (loaded, tt);
   cause = subst (λ h. IsLoadFault (seen h before after) second fault) same (subst (λ n. IsLoadFault (seen now n after) second fault) still cause);
 }
+
+-- One load alone.
+pub only_fails : {T : Type 0} (shelf : ShelfView) (first : Asked) (r : Result T TopFault) → IfErr r (IsLoadFault shelf first) → IfErr r (IsLoadingFault shelf (first ∷ []))
+only_fails shelf first (Ok x) h = tt
+only_fails shelf first (Err fault) h = first_fails shelf first [] fault h

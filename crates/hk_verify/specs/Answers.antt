@@ -11,7 +11,7 @@ use Rattle.hk_report.specs.Report.{init_text, report_text}
 use Rattle.hk_verify.specs.Verdicts.{AreRight, AreCut}
 use Rattle.hk_verify.specs.declared.answer.Answer.{Answer}
 use Rattle.hk_verify.specs.declared.answer.TopFault.{TopFault}
-use Rattle.hk_verify.specs.declared.answer.TopFault.TheVariants.{Usage, Read, Long, Kernel as OfKernel, Spec as OfSpec, Cnf as OfCnf, Wide, Memory, Write}
+use Rattle.hk_verify.specs.declared.answer.TopFault.TheVariants.{Usage, Read, Long, Kernel as OfKernel, Spec as OfSpec, Cnf as OfCnf, Call as OfCall, Wide, Memory, Write}
 use Rattle.hk_verify.specs.Inputs.{ShelfView, AreRead, AreNarrow, CountsLoads, HasCause}
 use Rattle.hk_verify.specs.Lines.{fault_text, fault_status, verdict_status}
 
@@ -64,6 +64,7 @@ ReportsWith sink kernel spec answer (Some (Long w)) = ⊥
 ReportsWith sink kernel spec answer (Some (OfKernel f)) = ⊥
 ReportsWith sink kernel spec answer (Some (OfSpec f)) = ⊥
 ReportsWith sink kernel spec answer (Some (OfCnf f)) = ⊥
+ReportsWith sink kernel spec answer (Some (OfCall f)) = ⊥
 ReportsWith sink kernel spec answer (Some (Wide h)) = ⊥
 ReportsWith sink kernel spec answer (Some Memory) = ⊥
 

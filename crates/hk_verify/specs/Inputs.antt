@@ -15,7 +15,7 @@ use Rattle.hk_replay.specs.Violation.{case_bits}
 use Rattle.hk_verify.specs.Kernels.{IsTheKernel, IsRefusedKernel}
 use Rattle.hk_verify.specs.declared.inputs.Inputs.{Inputs}
 use Rattle.hk_verify.specs.declared.answer.TopFault.{TopFault}
-use Rattle.hk_verify.specs.declared.answer.TopFault.TheVariants.{Usage, Read, Long, Kernel as OfKernel, Spec as OfSpec, Cnf as OfCnf, Wide, Memory, Write}
+use Rattle.hk_verify.specs.declared.answer.TopFault.TheVariants.{Usage, Read, Long, Kernel as OfKernel, Spec as OfSpec, Cnf as OfCnf, Call as OfCall, Wide, Memory, Write}
 
 -- The most bytes of a kernel text: 16 MiB.
 abbrev pub kernel_limit : ℕ
@@ -55,6 +55,10 @@ verify_files kernel spec = asked 1 kernel kernel_limit ∷ asked 2 spec spec_lim
 abbrev pub lrat_files : List ℕ → List ℕ → List Asked
 lrat_files cnf proof = asked 1 cnf proof_limit ∷ asked 2 proof proof_limit ∷ []
 
+-- The file of `run KERNEL FUNCTION [ARG ..]`.
+abbrev pub run_files : List ℕ → List Asked
+run_files kernel = asked 1 kernel kernel_limit ∷ []
+
 -- This text was loaded for the file.
 pub record IsLoaded (held : Option Files) (file : Asked) (text : List ℕ) : Type 0 where
   pub told : IsSome held → held_under held file.name ≡ Some text
@@ -73,6 +77,7 @@ IsLoadFault shelf file Usage = ⊥
 IsLoadFault shelf file (OfKernel f) = ⊥
 IsLoadFault shelf file (OfSpec f) = ⊥
 IsLoadFault shelf file (OfCnf f) = ⊥
+IsLoadFault shelf file (OfCall f) = ⊥
 IsLoadFault shelf file (Wide h) = ⊥
 IsLoadFault shelf file Write = ⊥
 
@@ -149,6 +154,7 @@ HasCause shelf kernel spec name (Long w) = IsLoadingFault shelf (verify_files ke
 HasCause shelf kernel spec name (OfKernel f) = RefusesKernel shelf.held kernel spec f
 HasCause shelf kernel spec name (OfSpec f) = RefusesSpec shelf.held kernel spec f
 HasCause shelf kernel spec name (OfCnf f) = ⊥
+HasCause shelf kernel spec name (OfCall f) = ⊥
 HasCause shelf kernel spec name (Wide h) = RefusesWidth shelf.held kernel spec h name
 HasCause shelf kernel spec name Memory = ⊤
 HasCause shelf kernel spec name Write = ⊥
@@ -178,5 +184,6 @@ ReadsTo kernel_text spec_text (Err Usage) = ⊥
 ReadsTo kernel_text spec_text (Err (Read w)) = ⊥
 ReadsTo kernel_text spec_text (Err (Long w)) = ⊥
 ReadsTo kernel_text spec_text (Err (OfCnf f)) = ⊥
+ReadsTo kernel_text spec_text (Err (OfCall f)) = ⊥
 ReadsTo kernel_text spec_text (Err (Wide h)) = ⊥
 ReadsTo kernel_text spec_text (Err Write) = ⊥

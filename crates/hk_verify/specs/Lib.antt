@@ -4,5 +4,7 @@ pub mod Inputs
 pub mod Kernels
 pub mod Lines
 pub mod Lrat
+pub mod Runs
 pub mod Verdicts
+pub mod Whole
 pub mod Words

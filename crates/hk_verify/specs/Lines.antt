@@ -9,11 +9,13 @@ use Rattle.spec_text.specs.declared.fault.SpecReason.{SpecReason}
 use Rattle.spec_text.specs.declared.fault.SpecReason.TheVariants.{S3}
 use Rattle.hk_cnf.specs.declared.dimacs_read.CnfReason.{CnfReason}
 use Rattle.hk_cnf.specs.declared.dimacs_read.CnfReason.TheVariants.{C1, C2, C3}
-use Rattle.hk_report.specs.Texts.{line}
+use Rattle.hk_rows.specs.Texts.{line}
 use Rattle.hk_report.specs.declared.verdict.Verdict.{Verdict}
 use Rattle.hk_report.specs.declared.verdict.Verdict.TheVariants.{Accepted, Rejected, Memory as NoMemory}
+use Rattle.hk_verify.specs.declared.answer.CallReason.{CallReason}
+use Rattle.hk_verify.specs.declared.answer.CallReason.TheVariants.{A1, A2, A3}
 use Rattle.hk_verify.specs.declared.answer.TopFault.{TopFault}
-use Rattle.hk_verify.specs.declared.answer.TopFault.TheVariants.{Usage, Read, Long, Kernel, Spec, Cnf, Wide, Memory, Write}
+use Rattle.hk_verify.specs.declared.answer.TopFault.TheVariants.{Usage, Read, Long, Kernel, Spec, Cnf, Call, Wide, Memory, Write}
 
 -- A reason as it is printed.
 abbrev pub kernel_code : KernelReason → List ℕ
@@ -41,11 +43,16 @@ cnf_code C1 = codes "C1"
 cnf_code C2 = codes "C2"
 cnf_code C3 = codes "C3"
 
+abbrev pub call_code : CallReason → List ℕ
+call_code A1 = codes "A1"
+call_code A2 = codes "A2"
+call_code A3 = codes "A3"
+
 -- A line that names a line of a text and a reason.
 abbrev pub coded_line : List ℕ → ℕ → List ℕ → List ℕ
 coded_line text number code = line (text ∷ decimal number ∷ codes ": " ∷ code ∷ [])
 
--- The line of a fault; `name` is that of the handler where it is too wide. After a failed put there is none.
+-- The line of a fault; `name` is that of the handler where it is too wide, and the word 2 that of the function of `run`. After a failed put there is none.
 abbrev pub fault_text : List (List ℕ) → List ℕ → TopFault → List ℕ
 fault_text words name Usage = line (codes "usage: hkv verify, check, replay, lrat, run or bench" ∷ [])
 fault_text words name (Read w) = line (codes "read fault " ∷ slice_index_or words w [] ∷ [])
@@ -53,6 +60,7 @@ fault_text words name (Long w) = line (codes "long " ∷ slice_index_or words w 
 fault_text words name (Kernel f) = coded_line (codes "kernel ") f.line (kernel_code f.reason)
 fault_text words name (Spec f) = coded_line (codes "spec ") f.line (spec_code f.reason)
 fault_text words name (Cnf f) = coded_line (codes "cnf ") f.line (cnf_code f.reason)
+fault_text words name (Call f) = line (codes "call " ∷ slice_index_or words 2 [] ∷ codes ": " ∷ call_code f.reason ∷ [])
 fault_text words name (Wide h) = line (codes "wide " ∷ name ∷ [])
 fault_text words name Memory = line (codes "memory" ∷ [])
 fault_text words name Write = []
@@ -65,6 +73,7 @@ fault_status (Long w) = 3
 fault_status (Kernel f) = 3
 fault_status (Spec f) = 3
 fault_status (Cnf f) = 3
+fault_status (Call f) = 3
 fault_status (Wide h) = 3
 fault_status Memory = 7
 fault_status Write = 6

@@ -14,11 +14,11 @@ use Rattle.hk_lrat.specs.declared.log.RowReason.{RowReason}
 use Rattle.hk_lrat.specs.declared.log.RowReason.TheVariants.{L1, L2, L3, L4, L5, L6, L7}
 use Rattle.hk_lrat.specs.Log.{Fault, log_fault}
 use Rattle.hk_lrat.specs.LogText.{log_of}
-use Rattle.hk_report.specs.Texts.{line}
+use Rattle.hk_rows.specs.Texts.{line}
 use Rattle.hk_report.specs.declared.verdict.InitVerdict.TheVariants.{NotRun}
 use Rattle.hk_verify.specs.declared.answer.Answer.{Answer}
 use Rattle.hk_verify.specs.declared.answer.TopFault.{TopFault}
-use Rattle.hk_verify.specs.declared.answer.TopFault.TheVariants.{Usage, Read, Long, Kernel as OfKernel, Spec as OfSpec, Cnf as OfCnf, Wide, Memory, Write}
+use Rattle.hk_verify.specs.declared.answer.TopFault.TheVariants.{Usage, Read, Long, Kernel as OfKernel, Spec as OfSpec, Cnf as OfCnf, Call as OfCall, Wide, Memory, Write}
 use Rattle.hk_verify.specs.Words.{IsLrat}
 use Rattle.hk_verify.specs.Inputs.{ShelfView, AreLoaded, IsLoadingFault, lrat_files}
 use Rattle.hk_verify.specs.Answers.{SinkView, IsRefused}
@@ -74,6 +74,7 @@ TellsWith sink outcome answer (Some (Long w)) = ⊥
 TellsWith sink outcome answer (Some (OfKernel f)) = ⊥
 TellsWith sink outcome answer (Some (OfSpec f)) = ⊥
 TellsWith sink outcome answer (Some (OfCnf f)) = ⊥
+TellsWith sink outcome answer (Some (OfCall f)) = ⊥
 TellsWith sink outcome answer (Some (Wide h)) = ⊥
 TellsWith sink outcome answer (Some Memory) = ⊥
 
@@ -110,6 +111,7 @@ ReadsCnf answer (Err (Read w)) = ⊥
 ReadsCnf answer (Err (Long w)) = ⊥
 ReadsCnf answer (Err (OfKernel f)) = ⊥
 ReadsCnf answer (Err (OfSpec f)) = ⊥
+ReadsCnf answer (Err (OfCall f)) = ⊥
 ReadsCnf answer (Err (Wide h)) = ⊥
 ReadsCnf answer (Err Write) = ⊥
 
@@ -122,6 +124,7 @@ HasLratCause shelf cnf proof Memory = ⊤
 HasLratCause shelf cnf proof Usage = ⊥
 HasLratCause shelf cnf proof (OfKernel f) = ⊥
 HasLratCause shelf cnf proof (OfSpec f) = ⊥
+HasLratCause shelf cnf proof (OfCall f) = ⊥
 HasLratCause shelf cnf proof (Wide h) = ⊥
 HasLratCause shelf cnf proof Write = ⊥
 

@@ -6,6 +6,25 @@ use hk_seq::Seq;
 use ir_ast::KernelFault;
 use spec_text::SpecFault;
 
+/// Why a function is not run. It is printed as its name.
+#[derive(Clone, Copy, Debug, PartialEq, Eq)]
+pub enum CallReason {
+    /// No function with a body has the name.
+    A1,
+    /// The function takes another number of arguments.
+    A2,
+    /// An argument is not below 2 to the power of its parameter's width, or stands for a pointer; or the result is a pointer.
+    A3,
+}
+
+/// A function that is not run, and the word that is why, counted from 0: that of the function, or for a parameter that of the
+/// argument that stands for it.
+#[derive(Clone, Copy, Debug, PartialEq, Eq)]
+pub struct CallFault {
+    pub word: u32,
+    pub reason: CallReason,
+}
+
 /// Why a call ended without its whole report. A word is counted from 0.
 #[derive(Clone, Copy, Debug, PartialEq, Eq)]
 pub enum TopFault {
@@ -21,6 +40,8 @@ pub enum TopFault {
     Spec(SpecFault),
     /// The clause file is refused.
     Cnf(CnfFault),
+    /// The function is not run.
+    Call(CallFault),
     /// This handler has more than sixteen case bits, and is the first such.
     Wide { handler: u32 },
     /// Memory was refused before the first line.

@@ -17,7 +17,7 @@ use spec_thin::tree::Spec;
 use std::alloc::Global;
 
 /// The most bytes of a kernel text: 16 MiB.
-const KERNEL_LIMIT: u32 = 16_777_216;
+pub const KERNEL_LIMIT: u32 = 16_777_216;
 
 /// The most bytes of a specification text: 1 MiB.
 const SPEC_LIMIT: u32 = 1_048_576;

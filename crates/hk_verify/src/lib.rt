@@ -12,10 +12,14 @@ mod lrat;
 mod lrat_tests;
 mod refusal;
 #[cfg(test)]
+mod run_tests;
+mod running;
+#[cfg(test)]
 mod tests;
 mod top;
 mod verdicts;
 mod verify;
+mod words;
 
 pub use refusal::status;
 pub use top::run_words;

@@ -43,6 +43,21 @@ fn load<F: Shelf>(
     }
 }
 
+/// Loads the file of the word 1, of at most so many bytes.
+pub fn load_first<F: Shelf>(
+    alloc: Global,
+    shelf: &mut F,
+    name: &str,
+    limit: u32,
+) -> Result<Vec<u8>, TopFault>
+    ensures loaded { IfOk result (λ text. AreLoaded (F.held shelf.old) (asked 1 name.now limit ∷ []) (text.items ∷ [])) }
+    ensures fault { IfErr result (IsLoadingFault (seen (F.held shelf.old) (F.faults shelf.old) (F.faults shelf.new)) (asked 1 name.now limit ∷ [])) }
+    ensures counts { CountsLoads (result_err result) (F.faults shelf.old) (F.faults shelf.new) }
+    ensures held { F.held shelf.new ≡ F.held shelf.old }
+{
+    load(alloc, shelf, FIRST_WORD, name, limit)
+}
+
 /// Loads the files of the words 1 and 2, each of at most so many bytes; the second is loaded only behind the first.
 pub fn load_both<F: Shelf>(
     alloc: Global,

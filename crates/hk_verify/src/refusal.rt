@@ -1,21 +1,25 @@
 //! Calls that end before the line of the opening: their line and their answer.
 
-ghost use Rattle.std.specs.Prelude.{◌≡◌, ◌≤◌, ◌∷◌, [], OnOk, OnErr, Some, slice_index_or};
+ghost use Rattle.std.specs.Prelude.{◌≡◌, ◌≤◌, ◌∷◌, [], OnOk, OnErr, Some, codes, slice_index_or};
 ghost use Rattle.hk_io.specs.Faults.{Rose};
 ghost use Rattle.hk_io.specs.Shown.{shown_with, ShowsPrefix};
 ghost use Rattle.hk_verify.specs.Words.{bytes_of};
-ghost use Rattle.hk_report.specs.Texts.{line};
-ghost use Rattle.hk_verify.specs.Lines.{fault_text, coded_line, fault_status, kernel_code, spec_code, cnf_code};
+ghost use Rattle.hk_rows.specs.Texts.{line};
+ghost use Rattle.hk_verify.specs.Lines.{fault_text, coded_line, fault_status, kernel_code, spec_code, cnf_code, call_code};
 ghost use Rattle.hk_verify.specs.Answers.{SinkView, IsRefused};
 
-use crate::answer::{Answer, TopFault};
+use crate::answer::{Answer, CallReason, TopFault};
 use hk_cnf::CnfReason;
 use hk_io::{Sink, SinkFault};
-use hk_report::{InitVerdict, Part, put_line};
+use hk_report::InitVerdict;
+use hk_rows::{Part, put_line};
 use hk_seq::Seq;
 use ir_ast::KernelReason;
 use spec_text::SpecReason;
 use std::alloc::Global;
+
+/// The word that names the function of `run`, counted from 0.
+pub const FUNCTION_WORD: u32 = 2;
 
 /// The status of a fault. It takes no memory.
 pub fn status(answer: &TopFault) -> u8
@@ -28,6 +32,7 @@ pub fn status(answer: &TopFault) -> u8
         TopFault::Kernel(_) => 3,
         TopFault::Spec(_) => 3,
         TopFault::Cnf(_) => 3,
+        TopFault::Call(_) => 3,
         TopFault::Wide { .. } => 3,
         TopFault::Memory => 7,
         TopFault::Write => 6,
@@ -74,6 +79,17 @@ fn cnf_reason(reason: CnfReason) -> &'static [u8]
         CnfReason::C1 => b"C1",
         CnfReason::C2 => b"C2",
         CnfReason::C3 => b"C3",
+    }
+}
+
+/// A reason why a function is not run as it is printed.
+fn call_reason(reason: CallReason) -> &'static [u8]
+    ensures { result.now ≡ call_code reason }
+{
+    match reason {
+        CallReason::A1 => b"A1",
+        CallReason::A2 => b"A2",
+        CallReason::A3 => b"A3",
     }
 }
 
@@ -130,6 +146,24 @@ fn put_coded<'x, O: Sink>(
     )
 }
 
+/// Puts the line of a function that is not run, and the code of the reason.
+fn put_called<'x, O: Sink>(out: &mut O, name: &'x [u8], code: &'x [u8]) -> Result<(), SinkFault>
+    ensures whole { OnOk result (O.shown out.new ≡ shown_with (O.shown out.old) (line (codes "call " ∷ name.now ∷ codes ": " ∷ code.now ∷ []))) }
+    ensures cut { OnErr result (ShowsPrefix (O.shown out.old) (O.shown out.new) (line (codes "call " ∷ name.now ∷ codes ": " ∷ code.now ∷ []))) }
+    ensures failed { OnErr result (Rose (O.faults out.old) (O.faults out.new)) }
+    ensures still { OnOk result (O.faults out.new ≡ O.faults out.old) }
+{
+    put_line(
+        out,
+        &[
+            Part::Text(b"call "),
+            Part::Text(name),
+            Part::Text(b": "),
+            Part::Text(code),
+        ],
+    )
+}
+
 /// Puts the line of a fault; `name` is that of the handler where it is too wide. After a failed put there is none.
 fn put_fault<O: Sink>(
     out: &mut O,
@@ -154,6 +188,11 @@ fn put_fault<O: Sink>(
         ),
         TopFault::Spec(fault) => put_coded(out, b"spec ", fault.line, spec_reason(fault.reason)),
         TopFault::Cnf(fault) => put_coded(out, b"cnf ", fault.line, cnf_reason(fault.reason)),
+        TopFault::Call(fault) => put_called(
+            out,
+            word_at(words, FUNCTION_WORD),
+            call_reason(fault.reason),
+        ),
         TopFault::Wide { .. } => put_named(out, b"wide ", name),
         TopFault::Memory => put_text(out, b"memory"),
         TopFault::Write => Ok(()),

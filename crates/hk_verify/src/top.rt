@@ -1,16 +1,19 @@
 //! The one call that the program makes.
 
 ghost use Rattle.std.specs.Prelude.{◌≡◌, ◌∷◌, [], List, ℕ, IfSome, IfNone};
-ghost use Rattle.hk_verify.specs.Words.{HasNoForm, IsLrat, IsVerify, bytes_of};
+ghost use Rattle.hk_verify.specs.Words.{HasNoForm, IsLrat, IsRun, IsVerify, bytes_of};
 ghost use Rattle.hk_verify.specs.Inputs.{ShelfView};
 ghost use Rattle.hk_verify.specs.Answers.{SinkView, HidesNone, IsUsage, Means};
 ghost use Rattle.hk_verify.specs.Headline.{AcceptsCorrect, RejectsRefuted};
 ghost use Rattle.hk_verify.specs.Lrat.{MeansLrat, RefutesSoundly};
+ghost use Rattle.hk_verify.specs.Runs.{MeansRun};
 
 use crate::answer::{Answer, TopFault};
 use crate::lrat::lrat;
 use crate::refusal::refuse;
+use crate::running::run;
 use crate::verify::verify;
+use crate::words::behind_run;
 use hk_io::{Shelf, Sink};
 use std::alloc::Global;
 
@@ -33,8 +36,8 @@ fn names_behind<'x>(words: &'x [String], command: &'x str) -> Option<(&'x str, &
 
 /// Does what the words ask, reads from the shelf and reports on the sink.
 ///
-/// The forms so far are `verify KERNEL SPEC` and `lrat CNF PROOF`; other words are a faulty command line. Want of memory
-/// alone is free.
+/// The forms so far are `verify KERNEL SPEC`, `lrat CNF PROOF` and `run KERNEL FUNCTION [ARG ..]`; other words are a faulty command
+/// line. Want of memory alone is free.
 pub fn run_words<F: Shelf, O: Sink>(
     alloc: Global,
     words: &[String],
@@ -57,6 +60,11 @@ pub fn run_words<F: Shelf, O: Sink>(
         let view : ShelfView = record { held = F.held shelf.old; before = F.faults shelf.old; after = F.faults shelf.new } in
         let sink : SinkView = record { shown = O.shown out.old; shown' = O.shown out.new; faults = O.faults out.old; faults' = O.faults out.new } in
         MeansLrat view sink (bytes_of words.now) cnf proof result }
+    // what is answered and shown for a run: the end of the run of the text that was loaded, or a fault with its cause
+    ensures ran { (kernel function : List ℕ) (arguments : List ℕ) → IsRun (bytes_of words.now) kernel function arguments →
+        let view : ShelfView = record { held = F.held shelf.old; before = F.faults shelf.old; after = F.faults shelf.new } in
+        let sink : SinkView = record { shown = O.shown out.old; shown' = O.shown out.new; faults = O.faults out.old; faults' = O.faults out.new } in
+        MeansRun view sink (bytes_of words.now) kernel function arguments result }
     // words without a form get the line of usage
     ensures usage { HasNoForm (bytes_of words.now) →
         let sink : SinkView = record { shown = O.shown out.old; shown' = O.shown out.new; faults = O.faults out.old; faults' = O.faults out.new } in
@@ -70,8 +78,13 @@ pub fn run_words<F: Shelf, O: Sink>(
     if let Some((kernel, spec)) = names_behind(words, "verify") {
         return verify(alloc, words, kernel, spec, shelf, out);
     }
-    match names_behind(words, "lrat") {
-        Some((cnf, proof)) => lrat(alloc, words, cnf, proof, shelf, out),
+    if let Some((cnf, proof)) = names_behind(words, "lrat") {
+        return lrat(alloc, words, cnf, proof, shelf, out);
+    }
+    match behind_run(words) {
+        Some((kernel, function, arguments)) => {
+            run(alloc, words, kernel, function, arguments, shelf, out)
+        }
         None => refuse(alloc, out, words, &[], TopFault::Usage),
     }
 }

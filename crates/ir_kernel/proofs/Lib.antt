@@ -9,3 +9,5 @@ pub mod StepTypes
 pub mod LoadTypes
 pub mod StoreTypes
 pub mod InstrFacts
+pub mod PassingLaws
+pub mod InitLaws

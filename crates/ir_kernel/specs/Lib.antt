@@ -4,3 +4,5 @@ pub mod Answers
 pub mod Runs
 pub mod Typed
 pub mod Steps
+pub mod Passing
+pub mod Ends

@@ -79,9 +79,8 @@ fn started(
     })
 }
 
-/// Runs a function of a kernel, by its place, for its expanded length. The memory that is lent is as before; the run has a copy of it.
-/// It takes time and memory for the steps of the run.
-pub fn run(
+/// Runs a function of a kernel, by its place, for its expanded length, on a copy of the memory.
+pub(crate) fn watch(
     alloc: Global,
     kernel: &Kernel,
     function: u32,

@@ -5,11 +5,15 @@
 //! run ends within the expanded length of its function.
 #![tactic(auto)]
 
+mod beginning;
 mod calling;
+mod ends;
 mod kernel;
 mod laws;
+mod passing;
 
-pub use calling::run;
+pub use beginning::initial_memory;
+pub use ends::{RunEnd, run};
 pub use kernel::Kernel;
 pub use laws::{
     checked_instructions_fit, checked_kernels_are_loop_free, computations_are_never_lost,
@@ -17,3 +21,4 @@ pub use laws::{
     loads_are_never_lost, operands_have_values_of_their_types, parts_are_never_lost,
     runs_of_kernels_end, stores_are_never_lost,
 };
+pub use passing::{Misfit, Passed, pass};

@@ -1,7 +1,7 @@
 use Rattle.std.proofs.Common.{sym}
 use Rattle.ir_ast.specs.ProgramView.{view_module}
 use Rattle.ir_kernel.proofs.CallLaws.{made_of, is_run, is_finished}
-use Rattle.ir_kernel.proofs.calling.run.Goals as goal
+use Rattle.ir_kernel.proofs.calling.watch.Goals as goal
 
 pub returns-clause-run : goal.returns-clause-run
 returns-clause-run c =

@@ -1,0 +1,10 @@
+use Rattle.hk_verify.specs.Words.{bytes_of}
+use Rattle.hk_verify.proofs.NumberWords.{has_form}
+use Rattle.hk_verify.proofs.top.run_words.Goals as goal
+
+pub returns-in-Some-behind_run-clause-usage : goal.returns-in-Some-behind_run-clause-usage
+returns-in-Some-behind_run-clause-usage g c = λ none. absurd (has_form (bytes_of c.args.words.now) (bytes_of c.in-Some-behind_run.arguments.now) c.in-Some-behind_run.kernel.now c.in-Some-behind_run.function.now
+    c.in-Some-behind_run.ensures.form c.in-Some-behind_run.ensures.numbers none)
+
+pub returns-in-None-clause-ran : goal.returns-in-None-clause-ran
+returns-in-None-clause-ran g c = λ kernel function arguments is. absurd (c.in-None.ensures.none kernel function arguments is)

@@ -1,0 +1,85 @@
+//! The words of `run KERNEL FUNCTION [ARG ..]`.
+
+ghost use Rattle.std.specs.Prelude.{◌≡◌, ◌<◌, ◌^◌, ◌∷◌, ℕ, List, IfSome, IfNone, IfOk, IsTrue, All, false, map, bytes_eq, codes};
+ghost use Rattle.std.specs.Fmt.{decimal};
+ghost use Rattle.hk_verify.specs.Words.{AreNumbers, IsRun, bytes_of};
+
+use itoa::Buffer;
+use std::alloc::{AllocError, Global};
+
+/// Whether a word is the decimal digits of a number.
+fn spells(word: &str, number: u64) -> bool
+    ensures { result ≡ bytes_eq word.now (decimal number) }
+{
+    word.as_bytes() == Buffer::new().format(number).as_bytes()
+}
+
+/// The number of which a word is the decimal digits.
+fn number_of(word: &str) -> Option<u64>
+    ensures number { IfSome result (λ n. word.now ≡ decimal n) }
+    ensures small { IfSome result (λ n. n < 2 ^ 64) }
+    ensures none { IfNone result ((n : ℕ) → n < 2 ^ 64 → word.now ≡ decimal n → ⊥) }
+{
+    match word.parse::<u64>() {
+        Ok(number) => {
+            if spells(word, number) {
+                Some(number)
+            } else {
+                None
+            }
+        }
+        Err(_) => None,
+    }
+}
+
+/// Whether each word is the decimal digits of a number below 2^64.
+fn are_numbers(words: &[String]) -> bool
+    ensures numbers { IsTrue result → AreNumbers (bytes_of words.now) }
+    ensures none { result ≡ false → AreNumbers (bytes_of words.now) → ⊥ }
+{
+    for word in words {
+        if number_of(word.as_str()).is_none() {
+            return false;
+        }
+    }
+    true
+}
+
+/// The names of the kernel and the function and the words of the arguments, where the words are those of `run`. It takes no memory.
+pub fn behind_run<'x>(words: &'x [String]) -> Option<(&'x str, &'x str, &'x [String])>
+    ensures form { IfSome result (λ r. bytes_of words.now ≡ codes "run" ∷ r.0.now ∷ r.1.now ∷ bytes_of r.2.now) }
+    ensures numbers { IfSome result (λ r. AreNumbers (bytes_of r.2.now)) }
+    ensures none { IfNone result ((kernel function : List ℕ) (arguments : List ℕ) → IsRun (bytes_of words.now) kernel function arguments → ⊥) }
+{
+    match words {
+        [command, kernel, function, arguments @ ..] => {
+            if command.as_str() == "run" && are_numbers(arguments) {
+                Some((kernel.as_str(), function.as_str(), arguments))
+            } else {
+                None
+            }
+        }
+        _ => None,
+    }
+}
+
+/// The number of a word; 0 where it is none.
+fn value_of(word: &str) -> u64
+    ensures { (n : ℕ) → n < 2 ^ 64 → word.now ≡ decimal n → result ≡ n }
+{
+    match number_of(word) {
+        Some(number) => number,
+        None => 0,
+    }
+}
+
+/// The numbers of which the words are the decimal digits, where they are.
+pub fn numbers_of(alloc: Global, words: &[String]) -> Result<Vec<u64>, AllocError>
+    ensures { IfOk result (λ numbers. (arguments : List ℕ) → bytes_of words.now ≡ map decimal arguments → All (λ n. n < 2 ^ 64) arguments → numbers.items ≡ arguments) }
+{
+    let mut numbers = Vec::new(alloc);
+    for word in words {
+        numbers.push(value_of(word.as_str()))?;
+    }
+    Ok(numbers)
+}
