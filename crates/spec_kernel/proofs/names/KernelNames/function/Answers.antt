@@ -1,0 +1,8 @@
+use Rattle.spec_kernel.specs.Seen.{seen_of}
+use Rattle.spec_kernel.proofs.NameLaws.{function_found}
+use Rattle.spec_kernel.proofs.names.KernelNames.function.Goals as goal
+
+pub returns-clause-place : goal.returns-clause-place
+returns-clause-place c =
+    let k = seen_of c.self.inside.shapes c.self.inside.globals.items c.self.inside.functions.items in
+    function_found k c.args.self.now c.self.inside.function_places c.args.name.now c.get.result c.self.invariant.function_names c.self.view_is c.get.ensures

@@ -1,0 +1,10 @@
+pub mod Scope
+pub mod Takes
+pub mod Taking
+pub mod Tests
+pub mod Words
+pub mod Fields
+pub mod View
+pub mod Free
+pub mod Answers
+pub mod Steps

@@ -1,0 +1,7 @@
+-- What a scope of the code means.
+use Rattle.spec_kernel.specs.Seen.{kernel_in}
+use Rattle.spec_scope.specs.Scope as plain
+use Rattle.spec_scope.specs.declared.scoped.Scope.{Scope}
+
+abbrev pub view_scope : Scope → plain.Scope
+view_scope s = record { kernel = kernel_in s.kernel.now; fields = s.fields; top = s.top; inner = s.inner }
