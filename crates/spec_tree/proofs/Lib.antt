@@ -1,4 +1,4 @@
-mod Widths
-mod Entries
-mod Keeping
-mod Rows
+pub mod Widths
+pub mod Entries
+pub mod Keeping
+pub mod Rows

@@ -1,0 +1,4 @@
+mod Fields
+mod Walks
+mod Loops
+mod Paths
