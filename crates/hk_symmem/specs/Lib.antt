@@ -1,0 +1,5 @@
+pub mod Origins
+pub mod Guarded
+pub mod Sources
+pub mod Reading
+pub mod Rows

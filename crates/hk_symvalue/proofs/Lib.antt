@@ -1,0 +1,10 @@
+pub mod Frames
+pub mod TruthLaws
+pub mod NumberLaws
+pub mod RowLaws
+pub mod SignLaws
+pub mod ValueLaws
+pub mod PointerLaws
+pub mod PairLaws
+pub mod RangeLaws
+pub mod AddressLaws
