@@ -25,3 +25,9 @@ pub mod Subjects
 pub mod OurDemands
 pub mod Lengthening
 pub mod AddedSteps
+pub mod FirstReads
+pub mod Searches
+pub mod AddedPairs
+pub mod ViolatedCases
+pub mod SameInstances
+pub mod LaterNames

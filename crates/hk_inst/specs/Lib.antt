@@ -1,3 +1,4 @@
+pub mod Indices
 pub mod Inputs
 pub mod Truths
 pub mod Adding
@@ -6,3 +7,4 @@ pub mod Exactness
 pub mod Questions
 pub mod Growing
 pub mod States
+pub mod Violations

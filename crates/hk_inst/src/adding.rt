@@ -25,6 +25,7 @@ fn bring(
 ) -> Result<(), AllocError>
     requires kept { IsKept s.old }
     requires subject { IsSubject (asked_of s.old).nodes (asked_of s.old).table instance subject.now }
+    requires fresh { is_among s.old.instances instance ≡ false }
     ensures growing { OnOk result (IsGrowing (asked_of s.new) s.new.first s.new.next (length s.old.bits)) }
     ensures instances { OnOk result (s.new.instances ≡ s.old.instances ++ instance ∷ []) }
     ensures reads { s.new.reads.items ≡ s.old.reads.items }
@@ -37,7 +38,7 @@ fn bring(
     make(&s.terms, demand, &mut s.gates, &mut s.bits)?;
     require(demand, &mut s.gates, &s.bits)?;
     s.demands.push(demand)?;
-    s.instances.push(instance)?;
+    s.instances.push(alloc, instance)?;
     Ok(())
 }
 
@@ -50,6 +51,7 @@ pub(crate) fn extend(
 ) -> Result<(), AllocError>
     requires kept { IsKept s.old }
     requires subject { IsSubject (asked_of s.old).nodes (asked_of s.old).table instance subject.now }
+    requires fresh { is_among s.old.instances instance ≡ false }
     ensures kept { OnOk result (IsKept s.new) }
     ensures instances { OnOk result (s.new.instances ≡ s.old.instances ++ instance ∷ []) }
     ensures first { s.new.first ≡ s.old.first }

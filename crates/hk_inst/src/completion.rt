@@ -37,7 +37,7 @@ fn number(values: &[bool], word: &[Lit]) -> u64
 }
 
 // The number of a term.
-fn number_of(values: &[bool], bits: &BitTable, t: TermId) -> u64
+pub(crate) fn number_of(values: &[bool], bits: &BitTable, t: TermId) -> u64
     requires short { (k : ℕ) → length (word_in bits.now k) ≤ 64 }
     requires within { (k : ℕ) → All (IsWithin (length values.now)) (word_in bits.now k) }
     ensures { result ≡ number_in bits.now values.now t }
@@ -65,7 +65,7 @@ fn set_variable(vars: &mut NumberTable, node: &Node, number: u64) -> Result<(), 
 }
 
 // A read has a number, at the number of its index; another term sets nothing.
-fn set_entry(
+pub(crate) fn set_entry(
     arrays: &mut ArrayTable,
     node: &Node,
     values: &[bool],

@@ -1,9 +1,14 @@
 //! Instances: what is known of reads and quantifiers beside their bits.
 
-ghost use Rattle.std.specs.Prelude.{◌≡◌, ◌++◌, ◌∷◌, [], take, OnOk, OnErr};
-ghost use Rattle.hk_inst.specs.Truths.{same_instance, is_among};
+ghost use Rattle.std.specs.Prelude.{◌≡◌, ◌++◌, ◌∷◌, [], take, nat_eq, IfOk, OnOk, OnErr};
+ghost use Rattle.std.specs.Cmp.Lexicographic.{pointwise, lists_per, lists_equiv};
+ghost use Rattle.std.specs.Cmp.{partial_equiv_from_equiv, nat_eq_equiv};
+ghost use Rattle.std.specs.Hash as fed;
+ghost use Rattle.std.proofs.Common.{ap};
+ghost use Rattle.hk_inst.specs.Indices.{numbers_same};
 
 use std::alloc::{AllocError, Global};
+use std::hash::{Hash, Hasher};
 use std::marker::Model;
 
 /// A tuple of numbers, one for each bound variable of a quantifier, the outermost first. A contract sees a list.
@@ -20,6 +25,30 @@ impl Model for SizeList {
     ghost view = { λ l. l.items.items };
 }
 
+impl PartialEq for SizeList {
+    ghost eq = { pointwise nat_eq };
+
+    ghost laws = { lists_per (partial_equiv_from_equiv nat_eq_equiv) };
+
+    fn eq(&self, other: &SizeList) -> bool {
+        self.items == other.items
+    }
+}
+
+impl Eq for SizeList {
+    ghost laws = { lists_equiv nat_eq_equiv };
+}
+
+impl Hash for SizeList {
+    ghost hash_input = { fed.slice fed.u64 };
+
+    ghost respects_eq = { λ x y e. ap (fed.slice fed.u64) (numbers_same x y e) };
+
+    fn hash<H: Hasher>(&self, state: &mut H) {
+        self.items.hash(state);
+    }
+}
+
 impl SizeList {
     /// These numbers.
     pub fn from_vec(items: Vec<u64>) -> SizeList
@@ -34,10 +63,18 @@ impl SizeList {
     {
         self.items.as_slice()
     }
+
+    /// The same numbers in memory of their own.
+    pub fn copy(&self, alloc: Global) -> Result<SizeList, AllocError>
+        ensures { IfOk result (λ l. l ≡ self.now) }
+    {
+        let items = self.items.as_slice().to_vec(alloc)?;
+        Ok(SizeList { items })
+    }
 }
 
 /// A fact that holds of each reading, over the numbers of reads and quantifiers.
-#[derive(Debug, Drop)]
+#[derive(Debug, Drop, PartialEq, Eq, Hash)]
 pub enum Instance {
     /// Two reads of one array: their values agree where their places are equal.
     Pair { a: u64, b: u64 },
@@ -60,37 +97,25 @@ impl Model for InstanceList {
     ghost view = { λ l. l.items.items };
 }
 
-// Whether two instances are the same.
-fn same(i: &Instance, j: &Instance) -> bool
-    ensures { result ≡ same_instance i.now j.now }
-{
-    match i {
-        Instance::Pair { a, b } => match j {
-            Instance::Pair { a: c, b: d } => a == c && b == d,
-            Instance::Tuple { .. } => false,
-        },
-        Instance::Tuple {
-            quantifier,
-            indices,
-        } => match j {
-            Instance::Pair { .. } => false,
+impl Instance {
+    /// The same instance in memory of its own.
+    pub fn copy(&self, alloc: Global) -> Result<Instance, AllocError>
+        ensures { IfOk result (λ i. i ≡ self.now) }
+    {
+        match self {
+            Instance::Pair { a, b } => Ok(Instance::Pair { a: *a, b: *b }),
             Instance::Tuple {
-                quantifier: other,
-                indices: others,
-            } => quantifier == other && indices.as_slice() == others.as_slice(),
-        },
-    }
-}
-
-fn is_among(instances: &[Instance], i: &Instance) -> bool
-    ensures { result ≡ is_among instances.now i.now }
-{
-    for j in instances {
-        if same(i, j) {
-            return true;
+                quantifier,
+                indices,
+            } => {
+                let indices = indices.copy(alloc)?;
+                Ok(Instance::Tuple {
+                    quantifier: *quantifier,
+                    indices,
+                })
+            }
         }
     }
-    false
 }
 
 impl InstanceList {
@@ -101,13 +126,6 @@ impl InstanceList {
         InstanceList {
             items: Vec::new(alloc),
         }
-    }
-
-    // Whether an instance is among these. Each of them is looked at.
-    pub(crate) fn contains(&self, i: &Instance) -> bool
-        ensures { result ≡ is_among self.now i.now }
-    {
-        is_among(self.items.as_slice(), i)
     }
 
     // Puts an instance behind the others.

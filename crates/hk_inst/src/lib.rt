@@ -4,7 +4,9 @@
 //! with a goal, and instances; what goes out is a clause list that is exact for both: `specs/Exactness.antt` says what that is.
 #![tactic(auto)]
 
+mod added;
 mod adding;
+mod clash;
 mod completion;
 mod demand;
 mod growth;
@@ -15,10 +17,12 @@ mod opening;
 mod prepare;
 mod question;
 mod required;
+mod search;
 mod start;
 mod state;
 mod subject;
 mod undo;
+mod violation;
 
 pub use instance::{Instance, InstanceList, SizeList};
 pub use question::Question;
@@ -26,3 +30,5 @@ pub use subject::AddFault;
 
 #[cfg(test)]
 mod tests;
+#[cfg(test)]
+mod violation_tests;

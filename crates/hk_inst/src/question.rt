@@ -1,6 +1,6 @@
 //! Questions.
 
-ghost use Rattle.std.specs.Prelude.{◌≡◌, ◌<◌, ◌++◌, ◌∷◌, [], false, true, nat_eq, length, IfOk, IfErr, OnOk, OnErr};
+ghost use Rattle.std.specs.Prelude.{◌≡◌, ◌<◌, ◌++◌, ◌∷◌, [], false, true, nat_eq, length, All, IfOk, IfErr, OnOk, OnErr};
 ghost use Rattle.hk_term.specs.Meaning.{Reading, reading_of, value};
 ghost use Rattle.hk_cnf.specs.Clauses.{clauses_value};
 ghost use Rattle.hk_inst.specs.declared.instance.Instance.{Instance};
@@ -9,6 +9,7 @@ ghost use Rattle.hk_inst.specs.Truths.{IsInstance, IsTrue, is_among};
 ghost use Rattle.hk_inst.specs.Exactness.{Exact};
 ghost use Rattle.hk_inst.specs.Growing.{IsGoal};
 ghost use Rattle.hk_inst.specs.Adding.{IsFault, Lengthened};
+ghost use Rattle.hk_inst.specs.Violations.{IsViolated};
 
 use crate::adding::add;
 use crate::completion::completion;
@@ -16,6 +17,7 @@ use crate::instance::{Instance, InstanceList};
 use crate::start::{holds, made};
 use crate::state::State;
 use crate::subject::AddFault;
+use crate::violation::{violated, violated_in};
 use hk_cnf::{Assignment, ClauseList};
 use hk_term::{TermId, Terms, Valuation};
 use std::alloc::{AllocError, Global};
@@ -67,13 +69,14 @@ impl Question {
     pub fn instances(&self) -> &InstanceList
         ensures { result.now ≡ self.now.instances }
     {
-        &self.state.instances
+        self.state.instances.list()
     }
 
     /// Adds an instance: the clauses are exact for the goal and the instances with this one behind the others. What stood
     /// before, clauses and numbers of reads and quantifiers among it, stays at the front; reads and quantifiers that come in
     /// are numbered behind it. An instance that was added before changes nothing, and neither does one that is refused, be
-    /// it for its numbers or for want of memory. The instances are gone through once, and of the table only what comes in.
+    /// it for its numbers or for want of memory. It takes the time of what comes in: neither the instances nor the table are
+    /// gone through.
     pub fn add(&mut self, alloc: Global, instance: Instance) -> Result<(), AddFault>
         ensures names { OnOk result (IsInstance self.old.nodes self.old.table instance) }
         ensures fault { IfErr result (λ f. IsFault self.old.nodes self.old.table instance f) }
@@ -110,6 +113,41 @@ impl Question {
         Ok(case)
     }
 
+    /// Instances that an assignment violates: the assignment satisfies the clauses. None where the goal is true in the completed
+    /// case, and only there. Each of the others names what it speaks of, so that `add` brings it in, was not added, and is
+    /// false: pairs of reads with the first read at their place, and where all reads agree tuples of quantifiers. The table,
+    /// the reads and what the goal reaches are gone through once, and of a quantifier the tuples as far as the first few
+    /// at which its body is false.
+    pub fn violated(&self, alloc: Global, a: &Assignment) -> Result<InstanceList, AllocError>
+        requires size { length a.now ≡ self.now.circuit.vars }
+        requires satisfied { clauses_value a.now self.now.circuit.clauses ≡ true }
+        ensures empty { IfOk result (λ l. l ≡ [] → value self.now.nodes self.now.goal (completed self.now.nodes self.now.table (number_in self.now.table.words a.now)) ≡ 1) }
+        ensures holds { IfOk result (λ l. value self.now.nodes self.now.goal (completed self.now.nodes self.now.table (number_in self.now.table.words a.now)) ≡ 1 → l ≡ []) }
+        ensures each { IfOk result (λ l. All (IsViolated self.now (number_in self.now.table.words a.now) (completed self.now.nodes self.now.table (number_in self.now.table.words a.now))) l) }
+    {
+        let found = violated(alloc, &self.state, a);
+        found
+    }
+
+    /// What `complete` and `violated` give, with one completion for both: a round of the loop that decides.
+    pub fn round(
+        &self,
+        alloc: Global,
+        a: &Assignment,
+    ) -> Result<(Valuation, InstanceList), AllocError>
+        requires size { length a.now ≡ self.now.circuit.vars }
+        requires satisfied { clauses_value a.now self.now.circuit.clauses ≡ true }
+        ensures reading { IfOk result (λ r. reading_of r.0 ≡ completed self.now.nodes self.now.table (number_in self.now.table.words a.now)) }
+        ensures decides { IfOk result (λ r. ((i : Instance) → is_among self.now.instances i ≡ false → IsTrue self.now.nodes self.now.table (number_in self.now.table.words a.now) (reading_of r.0) i) → value self.now.nodes self.now.goal (reading_of r.0) ≡ 1) }
+        ensures empty { IfOk result (λ r. r.1 ≡ [] → value self.now.nodes self.now.goal (completed self.now.nodes self.now.table (number_in self.now.table.words a.now)) ≡ 1) }
+        ensures holds { IfOk result (λ r. value self.now.nodes self.now.goal (completed self.now.nodes self.now.table (number_in self.now.table.words a.now)) ≡ 1 → r.1 ≡ []) }
+        ensures each { IfOk result (λ r. All (IsViolated self.now (number_in self.now.table.words a.now) (completed self.now.nodes self.now.table (number_in self.now.table.words a.now))) r.1) }
+    {
+        let mut case = completion(alloc, &self.state, a)?;
+        let found = violated_in(alloc, &self.state, a, &mut case)?;
+        Ok((case, found))
+    }
+
     /// The instances and the clauses. It spends the question and takes no memory.
     pub fn into_parts(self) -> (InstanceList, ClauseList)
         ensures instances { result.0 ≡ self.instances }
@@ -122,6 +160,6 @@ impl Question {
             instances,
             ..
         } = state;
-        (instances, gates.into_clauses())
+        (instances.into_list(), gates.into_clauses())
     }
 }

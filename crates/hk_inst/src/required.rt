@@ -184,6 +184,25 @@ fn widened(terms: &mut Terms, place: TermId) -> Result<TermId, AllocError>
     made
 }
 
+// "These two are equal."
+fn equal(terms: &mut Terms, a: TermId, b: TermId) -> Result<TermId, AllocError>
+    requires a { a < length terms.old }
+    requires b { b < length terms.old }
+    requires widths { width terms.old a ≡ width terms.old b }
+    ensures at { IfOk result (λ t. slice_get terms.new t ≡ Some (Node.Binary TermKind.Eq a b)) }
+    ensures within { IfOk result (λ t. t < length terms.new) }
+    ensures width { IfOk result (λ t. width terms.new t ≡ 1) }
+    ensures keeps { (k : ℕ) (n : Node) → slice_get terms.old k ≡ Some n → slice_get terms.new k ≡ Some n }
+    ensures keeps_widths { (k : ℕ) → k < length terms.old → width terms.new k ≡ width terms.old k }
+    ensures longer { length terms.old ≤ length terms.new }
+    ensures grows { (first : List Node) → Grows first terms.old → Grows first terms.new }
+    ensures adds { (tests : Tests) → AllPass tests terms.old → AllPass tests terms.new }
+{
+    let kind = TermKind::Eq;
+    let made = put(terms, Node::Binary { kind, a, b });
+    made
+}
+
 // "If these places are equal, the values of these two reads are."
 pub(crate) fn agreement(
     terms: &mut Terms,
@@ -204,22 +223,8 @@ pub(crate) fn agreement(
 {
     let wide = widened(terms, place)?;
     let other_wide = widened(terms, other_place)?;
-    let places = put(
-        terms,
-        Node::Binary {
-            kind: TermKind::Eq,
-            a: wide,
-            b: other_wide,
-        },
-    )?;
-    let values = put(
-        terms,
-        Node::Binary {
-            kind: TermKind::Eq,
-            a: first,
-            b: second,
-        },
-    )?;
+    let places = equal(terms, wide, other_wide)?;
+    let values = equal(terms, first, second)?;
     let one = put(terms, Node::Const { width: 1, value: 1 })?;
     let made = put(
         terms,

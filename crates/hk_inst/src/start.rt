@@ -8,8 +8,8 @@ ghost use Rattle.hk_copy.specs.Reach.{passes, AllPass};
 ghost use Rattle.hk_inst.specs.Growing.{IsGoal, IsGrowing, ids_below};
 ghost use Rattle.hk_inst.specs.States.{asked_of, IsKept};
 
+use crate::added::InstanceSet;
 use crate::growth::close;
-use crate::instance::InstanceList;
 use crate::numbering::numbered;
 use crate::state::{State, make, require};
 use hk_blast::BitTable;
@@ -92,7 +92,7 @@ pub(crate) fn begin(alloc: Global, terms: Terms, goal: TermId) -> Result<State, 
         reads: Vec::new(alloc),
         quantifiers: Vec::new(alloc),
         openings: Vec::new(alloc),
-        instances: InstanceList::new(alloc),
+        instances: InstanceSet::new(alloc),
         demands: Vec::new(alloc),
         first,
         next: first,

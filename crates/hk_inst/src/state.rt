@@ -6,7 +6,7 @@ ghost use Rattle.hk_cnf.specs.Front.{IsFront};
 ghost use Rattle.hk_blast.specs.Blasted.{HasWord, word_in, AreBlasted, Lengthens};
 ghost use Rattle.hk_inst.specs.Growing.{IsMade, IsRequiring};
 
-use crate::instance::InstanceList;
+use crate::added::InstanceSet;
 use crate::opening::Opening;
 use hk_blast::{BitTable, blast};
 use hk_cnf::Gates;
@@ -24,7 +24,7 @@ pub(crate) struct State {
     pub reads: Vec<u64>,
     pub quantifiers: Vec<u64>,
     pub openings: Vec<Opening>,
-    pub instances: InstanceList,
+    pub instances: InstanceSet,
     pub demands: Vec<TermId>,
     pub first: u32,
     pub next: u32,

@@ -41,7 +41,7 @@ pub(crate) enum Subject {
 }
 
 // The array and the place of a read, and none of another node.
-fn read_of(node: &Node) -> Option<(u32, TermId)>
+pub(crate) fn read_of(node: &Node) -> Option<(u32, TermId)>
     ensures some { IfSome result (λ r. (size : ℕ) × (node.now ≡ Node.Select r.0 size r.1)) }
     ensures none { IfNone result ((array size i : ℕ) → node.now ≡ Node.Select array size i → ⊥) }
 {
@@ -127,7 +127,7 @@ fn quantifier_of(node: &Node) -> Option<(&BoundList, TermId)>
 }
 
 // The quantifier of a number.
-fn quantifier_at<'a>(
+pub(crate) fn quantifier_at<'a>(
     terms: &'a Terms,
     quantifiers: &[u64],
     k: u64,

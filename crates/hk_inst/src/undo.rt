@@ -35,7 +35,7 @@ pub(crate) fn sizes_of(s: &State) -> Sizes
         reads: s.reads.len(),
         quantifiers: s.quantifiers.len(),
         openings: s.openings.len(),
-        instances: s.instances.as_slice().len(),
+        instances: s.instances.len(),
         demands: s.demands.len(),
         next: s.next,
     }
