@@ -1,7 +1,7 @@
 -- The hints of a learned clause: following them makes the marked literals true, place by place.
 use mathlib.Core.Path.{fun_ext}
 use Rattle.std.proofs.Common.{◌≡◌, ◌⊎◌, ℕ, zero, suc, ◌+◌, ◌-◌, ◌<◌, ◌≤◌, Bool, true, false, ◌&&◌, ◌||◌, eqb, List, [], ◌∷◌, ◌++◌, length, take, get_or, ℤ, neg_ℤ, Some, None, refl, sym, ◌∙◌, ap, subst, inl, inr, arith, append_assoc}
-use Rattle.std.proofs.lemmas.Bool.{cond-true, cond-false, ne_eqb, eq-eqb, or_left, or_right, or_from, and_left, and_from}
+use Rattle.std.proofs.lemmas.Bool.{false≢true, cond-true, cond-false, ne_eqb, eq-eqb, or_left, or_right, or_from, and_left, and_from}
 use Rattle.std.proofs.lemmas.List.{take_all}
 use Rattle.std.specs.Ordering.{int_eq}
 use Rattle.hk_cnf.specs.declared.hint.Hint.TheVariants.{False, Unit as OneLeft}
@@ -13,6 +13,7 @@ use Rattle.hk_lrat.specs.Log.{Live, numbered, clause_of, at_clause, at_hint, fol
 use Rattle.hk_cdcl.specs.Path.{AreApart, IsReason, lit_at, clause_at}
 use Rattle.hk_cdcl.specs.Propagation.{IsConflict}
 use Rattle.hk_cdcl.specs.Analysis.{seen_at, AreSeen, IsKept, IsResolved, IsNegated, AreNegations, Derives}
+use Rattle.hk_cdcl.specs.Learning.{upto, LeadsTo}
 use Rattle.hk_cdcl.proofs.Places.{has-more, place_of-neg, neg-neg, apart-at}
 use Rattle.hk_cdcl.proofs.Resolving.{reason-single}
 use Rattle.hk_cdcl.proofs.Tracing.{conflict-false}
@@ -39,14 +40,6 @@ follow-unit live t id hs c l a b =
 follow-false : (live : Live) (t : ℤ → Bool) (id : ℕ) (hs : List ℕ) (c : List ℤ) → clause_of live id ≡ Some c → hint_of t c ≡ False → follow live t (id ∷ hs) ≡ None
 follow-false live t id hs c a b =
     ap (λ o. at_clause o (λ d. at_hint (hint_of t d) (λ k. follow live (with_true k t) hs))) a ∙ ap (λ h. at_hint h (λ k. follow live (with_true k t) hs)) b
-
--- the negations of the clause's literals, and the marked literals before a place
-abbrev pub upto : List ℤ → List Bool → List ℤ → ℕ → ℤ → Bool
-upto c seen lits n l = denied c l || (has (take n lits) l && seen_at seen l)
-
--- following these hints from the clause's negations comes to the marked literals before the place
-pub record LeadsTo (live : Live) (c : List ℤ) (seen : List Bool) (lits : List ℤ) (n : ℕ) (hints : List ℕ) : Type 0 where
-  pub each : (rest : List ℕ) → follow live (denied c) (hints ++ rest) ≡ follow live (upto c seen lits n) rest
 
 or-off : (b : Bool) → b ≡ (b || false)
 or-off true = refl
@@ -151,19 +144,19 @@ leads-conflict clauses c seen lits n conflict hints le h marked l =
     refuted = hint-false (upto c seen lits n) (get_or clauses conflict []) (λ k d b. lifted (get_or (get_or clauses conflict []) k d) (marked k d b) (conflict-false clauses lits conflict h k d b))
 
 -- a place is not both kept and resolved
-pub kept-resolved : (first below uip n : ℕ) → first ≤ below → below ≤ uip → IsKept first below uip n → IsResolved first below uip n → ⊥
-kept-resolved first below uip n a b (inl (c, d)) (inl e) = omega (arith, c, e)
-kept-resolved first below uip n a b (inl (c, d)) (inr (e, f)) = omega (arith, d, e)
-kept-resolved first below uip n a b (inr c) (inl e) = omega (arith, a, b, c, e)
-kept-resolved first below uip n a b (inr c) (inr (e, f)) = f c
+pub kept-resolved : (drops : ℕ → Bool) (below uip n : ℕ) → below ≤ uip → IsKept drops below uip n → IsResolved drops below uip n → ⊥
+kept-resolved drops below uip n b (inl (c, d)) (inl (e, f)) = false≢true (sym c ∙ e)
+kept-resolved drops below uip n b (inl (c, d)) (inr (e, f)) = omega (arith, d, e)
+kept-resolved drops below uip n b (inr c) (inl (e, f)) = omega (arith, b, c, f)
+kept-resolved drops below uip n b (inr c) (inr (e, f)) = f c
 
 -- no literal of a resolved place's variable is in the clause
-pub resolved-denied : (lits : List ℤ) (seen : List Bool) (first below uip n : ℕ) (c : List ℤ) (y : ℤ) → AreApart lits → first ≤ below → below ≤ uip → AreNegations lits seen first below uip c → n < length lits → IsResolved first below uip n → place_of y ≡ place_of (lit_at lits n) → denied c y ≡ false
-resolved-denied lits seen first below uip n c y apart a b h lt r e = pick (denied c y) refl
+pub resolved-denied : (lits : List ℤ) (seen : List Bool) (drops : ℕ → Bool) (below uip n : ℕ) (c : List ℤ) (y : ℤ) → AreApart lits → below ≤ uip → AreNegations lits seen drops below uip c → n < length lits → IsResolved drops below uip n → place_of y ≡ place_of (lit_at lits n) → denied c y ≡ false
+resolved-denied lits seen drops below uip n c y apart b h lt r e = pick (denied c y) refl
   where
     pick : (v : Bool) → denied c y ≡ v → denied c y ≡ false
     pick false m = m
     pick true m =
-        let k : IsNegated lits first below uip (neg_ℤ y) = all-has (IsNegated lits first below uip) c (neg_ℤ y) h.sound m in
+        let k : IsNegated lits drops below uip (neg_ℤ y) = all-has (IsNegated lits drops below uip) c (neg_ℤ y) h.sound m in
         let same : k.place ≡ n = apart-at lits k.place n apart k.inside lt (ap place_of k.is ∙ (ap place_of (neg-neg y) ∙ e)) in
-        absurd (kept-resolved first below uip n a b (subst (IsKept first below uip) same k.kept) r)
+        absurd (kept-resolved drops below uip n b (subst (IsKept drops below uip) same k.kept) r)

@@ -1,10 +1,10 @@
 -- The trail and its levels, as the search goes on.
 use Rattle.std.proofs.Common.{◌≡◌, ◌≢◌, ◌⊎◌, ℕ, zero, suc, ◌+◌, ◌-◌, ◌<◌, ◌≤◌, true, false, List, [], ◌∷◌, ◌++◌, length, take, get_or, ℤ, pos, neg_ℤ, sym, ◌∙◌, ap, subst, inl, inr, arith, length-append}
-use Rattle.std.proofs.lemmas.Bool.{cases_lt, false_from_ne_true}
-use Rattle.std.proofs.lemmas.List.{get_or-append-add, get_or_append_left, take-append-le, take_all, get_or-append_right, length_push, length-take-le, get_or-take, take-take, get_or_default}
-use Rattle.std.proofs.lemmas.List.Elements.{All-push, All-take, All-nil, All-weaker}
+use Rattle.std.proofs.lemmas.Bool.{cases_lt, cases_eq, false_from_ne_true}
+use Rattle.std.proofs.lemmas.List.{get_or-append-add, get_or_append_left, take-append-le, take_all, get_or-append_right, length_push, get_or_push, length-take-le, get_or-take, take-take, get_or_default}
+use Rattle.std.proofs.lemmas.List.Elements.{All-push, All-take, All-nil, All-cons, All-weaker}
 use Rattle.std.proofs.lemmas.List.Quantifiers.{all_pairs_push}
-use Rattle.std.specs.List.{All, AllPairs}
+use Rattle.std.specs.List.{All, AllPairs, Contains}
 use Rattle.hk_cnf.specs.declared.hint.Hint.TheVariants.{Unit as OneLeft, Other}
 use Rattle.hk_cnf.specs.Literal.{IsWithin, place_of, has}
 use Rattle.hk_cnf.specs.Hint.{hint_of}
@@ -12,7 +12,7 @@ use Rattle.hk_cnf.specs.Clauses.{Clauses}
 use Rattle.hk_cnf.proofs.Tells.{hint-single, hint-several}
 use Rattle.hk_cdcl.specs.Fresh.{AreQuiet, IsFresh}
 use Rattle.hk_cdcl.specs.Path.{Path, AreApart, IsPath, IsReason, AreReasons, Extends, with_step, cut_at, lit_at, clause_at}
-use Rattle.hk_cdcl.specs.Analysis.{IsAsserting}
+use Rattle.hk_cdcl.specs.Analysis.{IsAsserting, AreNamed}
 use Rattle.hk_cdcl.specs.Searching.{IsLeveled, IsJump}
 use Rattle.hk_cdcl.proofs.Places.{has-place, has-take, at-take, apart-at, apart-take, apart-consistent, place_of-neg, neg-neg}
 use Rattle.hk_cdcl.proofs.Extending.{reason-append, extends-longer}
@@ -25,6 +25,7 @@ leveled-none clauses vars e =
       quiet = All-nil (λ level. AreQuiet (has (take level [])) clauses.clauses);
       rising = λ i j d lt b. absurd (omega (arith, b));
       inside = All-nil (λ level. level < 0);
+      decided = All-nil (λ level. get_or [] level 0 ≡ 0);
     }
 
 -- quiet at the beginnings of levels, as the trail grows behind them
@@ -40,6 +41,10 @@ leveled-extends clauses p q levels path h e =
       quiet = subst (λ ls. All (λ level. AreQuiet (has (take level ls)) clauses.clauses) levels) (sym e.lits) (quiet-append clauses.clauses p.lits e.more levels h.inside h.quiet);
       rising = h.rising;
       inside = λ k d lt. let b : get_or levels k d < length p.lits = h.inside k d lt in let g : length p.lits ≤ length q.lits = extends-longer clauses.clauses p q e in omega (arith, b, g);
+      decided = λ k d lt.
+          let b : get_or levels k d < length p.lits = h.inside k d lt in
+          let t : length p.reasons ≡ length p.lits = path.together in
+          ap (λ rs. get_or rs (get_or levels k d) 0) e.reasons ∙ (get_or_append_left p.reasons e.more_reasons 0 (get_or levels k d) (omega (arith, t, b)) ∙ h.decided k d lt);
     }
   where
     long : length q.lits ≡ length p.lits + length e.more
@@ -75,6 +80,10 @@ leveled-decision clauses p levels l path h q =
       inside =
           All-push (λ level. level < length (p.lits ++ l ∷ [])) levels (length p.lits)
           (λ k d lt. let b : get_or levels k d < length p.lits = h.inside k d lt in omega (arith, b, longer)) (omega (arith, longer));
+      decided =
+          All-push (λ level. get_or (p.reasons ++ 0 ∷ []) level 0 ≡ 0) levels (length p.lits)
+          (λ k d lt. let b : get_or levels k d < length p.lits = h.inside k d lt in let t : length p.reasons ≡ length p.lits = path.together in get_or_append_left p.reasons (0 ∷ []) 0 (get_or levels k d) (omega (arith, t, b)) ∙ h.decided k d lt)
+          (get_or_push p.reasons 0 0 (length p.lits) path.together);
     }
   where
     longer : length (p.lits ++ l ∷ []) ≡ length p.lits + 1
@@ -108,6 +117,24 @@ level-last clauses p levels n below h last e =
     pick : (m : ℕ) → below + 1 ≤ m → (k : ℕ) (d : ℕ) → k < length levels → (k < n) ⊎ (n ≤ k) → get_or levels k d ≢ m
     pick m a k d b (inl lt) s = let r : get_or levels k d < get_or levels n d = h.rising k n d lt (omega (arith, last)) in let g : get_or levels n d ≡ below = here d in omega (arith, s, r, g, a)
     pick m a k d b (inr ge) s = let c : k ≡ n = omega (arith, b, ge, last) in let g : get_or levels n d ≡ below = here d in let t : get_or levels k d ≡ get_or levels n d = ap (λ i. get_or levels i d) c in omega (arith, s, t, g, a)
+
+-- a place begins a level, or none begins there
+decide-level : (levels : List ℕ) (n : ℕ) → Contains levels n ⊎ All (λ level. level ≢ n) levels
+decide-level [] n = inr (All-nil (λ level. level ≢ n))
+decide-level (l ∷ levels) n = step (decide-level levels n) (cases_eq l n)
+  where
+    step : Contains levels n ⊎ All (λ level. level ≢ n) levels → (l ≡ n) ⊎ (l ≢ n) → Contains (l ∷ levels) n ⊎ All (λ level. level ≢ n) (l ∷ levels)
+    step r (inl e) = inl (0, omega arith, e)
+    step (inl (k, lt, at)) (inr d) = inl (suc k, omega (arith, lt), at)
+    step (inr a) (inr d) = inr (All-cons (λ level. level ≢ n) l levels d a)
+
+-- each literal is a decision or has a reason
+pub level-named : (clauses : Clauses) (p : Path) (levels : List ℕ) → IsLeveled clauses p levels → AreNamed clauses.clauses p
+level-named clauses p levels h = record { each = λ n lt. pick n lt (decide-level levels n) }
+  where
+    pick : (n : ℕ) → n < length p.lits → Contains levels n ⊎ All (λ level. level ≢ n) levels → (get_or p.reasons n 0 ≡ 0) ⊎ IsReason clauses.clauses p.lits n (get_or p.reasons n 0)
+    pick n lt (inl (k, b, at)) = inl (ap (λ i. get_or p.reasons i 0) (sym at) ∙ h.decided k n b)
+    pick n lt (inr a) = inr (h.reasons n lt a)
 
 pub level-none : (clauses : Clauses) (p : Path) → IsLeveled clauses p [] → AreReasons clauses.clauses p 0 (length p.lits)
 level-none clauses p h = record { each = λ n a lt. h.reasons n lt (All-nil (λ level. level ≢ n)) }
@@ -215,6 +242,7 @@ leveled-zero clauses p levels first h some e =
       quiet = All-nil (λ level. AreQuiet (has (take level (take first p.lits))) clauses.clauses);
       rising = λ i j d lt b. absurd (omega (arith, b));
       inside = All-nil (λ level. level < length (take first p.lits));
+      decided = All-nil (λ level. get_or (take first p.reasons) level 0 ≡ 0);
     }
   where
     short : length (take first p.lits) ≡ first
@@ -235,6 +263,10 @@ leveled-jump clauses p levels kept n below rest target c path h last e a j =
           let r : get_or levels i d < get_or levels k d = h.rising i k d lt (let dr : j.count < length levels = j.dropped in omega (arith, bk, dr)) in
           omega (arith, ei, ek, r);
       inside = λ k d lt. let b : get_or (take j.count levels) k d < target = under k d lt in let t : length (take target p.lits) ≡ target = length-take-le target p.lits (omega (arith, target-inside)) in omega (arith, b, t);
+      decided = λ k d lt.
+          let b : k < j.count = omega (arith, lt, count-len) in
+          get_or-take target p.reasons (get_or (take j.count levels) k d) 0 (under k d lt)
+          ∙ (ap (λ i. get_or p.reasons i 0) (get_or-take j.count levels k d b) ∙ h.decided k d (omega (arith, b, dropped)));
     })
   where
     dropped : j.count < length levels

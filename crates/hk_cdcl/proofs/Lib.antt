@@ -6,13 +6,16 @@ pub mod Marking
 pub mod Resolving
 pub mod Tracing
 pub mod Leading
-pub mod Collecting
+pub mod Dropping
 pub mod Asserting
+pub mod Collecting
 pub mod Logging
+pub mod Growing
 pub mod Leveling
 pub mod Satisfying
 pub mod Going
 pub mod Running
+pub mod Rounding
 pub mod Ternary
 pub mod Ending
 pub mod Resting

@@ -1,5 +1,5 @@
 -- A log that grows by accepted, fresh clauses.
-use Rattle.std.proofs.Common.{◌≡◌, ℕ, ◌+◌, true, false, not, ◌&&◌, cond, ltb, List, [], ◌∷◌, ◌++◌, length, ℤ, Some, None, refl, sym, ◌∙◌, ap, subst, arith, append_assoc}
+use Rattle.std.proofs.Common.{◌≡◌, ℕ, suc, ◌+◌, ◌≤◌, true, false, not, ◌&&◌, cond, ltb, List, [], ◌∷◌, ◌++◌, length, ℤ, Some, None, refl, sym, ◌∙◌, ap, subst, arith, append_assoc, length-append}
 use Rattle.std.proofs.lemmas.Bool.{false≢true, cond-true, lt-ltb, and_from, not_from_false}
 use Rattle.std.proofs.lemmas.List.{append-nil, length_push}
 use Rattle.std.proofs.lemmas.List.Elements.{All-push, All-nil, All-head, All-tail}
@@ -13,7 +13,7 @@ use Rattle.hk_lrat.specs.Log.{State, Live, numbered, start, is_within, has_both,
 use Rattle.hk_lrat.specs.Refutes.{AreAccepted, Refutes}
 use Rattle.hk_lrat.proofs.Denied.{is_within-from}
 use Rattle.hk_cdcl.specs.Fresh.{IsFresh, AreFresh, additions}
-use Rattle.hk_cdcl.specs.Searching.{after_rows, IsLogged}
+use Rattle.hk_cdcl.specs.Searching.{after_rows, AreOrdered, IsLogged}
 use Rattle.hk_cdcl.specs.Analysis.{Derives}
 
 -- a row more
@@ -21,16 +21,12 @@ accepted-push : (s : State) (log : List LratRow) (row : LratRow) → AreAccepted
 accepted-push s [] row h e = (e, tt)
 accepted-push s (x ∷ log) row h e = (h.0, accepted-push (after_row s x) log row h.1 e)
 
-after-push : (s : State) (log : List LratRow) (row : LratRow) → after_rows s (log ++ row ∷ []) ≡ after_row (after_rows s log) row
-after-push s [] row = refl
-after-push s (x ∷ log) row = after-push (after_row s x) log row
-
-additions-push : (log : List LratRow) (id : ℕ) (c : List ℤ) (hints : List ℕ) → additions (log ++ Add id c hints ∷ []) ≡ additions log ++ c ∷ []
+pub additions-push : (log : List LratRow) (id : ℕ) (c : List ℤ) (hints : List ℕ) → additions (log ++ Add id c hints ∷ []) ≡ additions log ++ c ∷ []
 additions-push [] id c hints = refl
 additions-push (Add i d hs ∷ log) id c hints = ap (λ x. d ∷ x) (additions-push log id c hints)
 additions-push (Delete ids ∷ log) id c hints = additions-push log id c hints
 
-fresh-push : (before cs : List (List ℤ)) (c : List ℤ) → AreFresh before cs → IsFresh (before ++ cs) c → AreFresh before (cs ++ c ∷ [])
+pub fresh-push : (before cs : List (List ℤ)) (c : List ℤ) → AreFresh before cs → IsFresh (before ++ cs) c → AreFresh before (cs ++ c ∷ [])
 fresh-push before [] c h f = (subst (λ b. IsFresh b c) (append-nil before) f, tt)
 fresh-push before (d ∷ cs) c h f = (h.0, fresh-push (before ++ d ∷ []) cs c h.1 (subst (λ b. IsFresh b c) (sym (append_assoc before (d ∷ []) cs)) f))
 
@@ -59,28 +55,63 @@ row-after clauses id c hints e =
     let g : Live → State = λ l. record { vars = clauses.vars; last = length (clauses.clauses ++ c ∷ []); live = l } in
     ap f one ∙ ap g live
 
+-- ids in order
+pub ordered-count : (n : ℕ) (log : List LratRow) → AreOrdered n log → length (additions log) ≡ length log
+ordered-count n [] h = refl
+ordered-count n (Add id c hints ∷ log) h = ap suc (ordered-count (n + 1) log h.2)
+ordered-count n (Delete ids ∷ log) h = absurd h
+
+ordered-push : (n : ℕ) (log : List LratRow) (id : ℕ) (c : List ℤ) (hints : List ℕ) → AreOrdered n log → id ≡ n + length log + 1 → All (λ h. h ≤ n + length log) hints → AreOrdered n (log ++ Add id c hints ∷ [])
+ordered-push n [] id c hints h e a = (omega (arith, e), subst (λ k. All (λ x. x ≤ k) hints) (omega arith) a, tt)
+ordered-push n (Add i d hs ∷ log) id c hints h e a =
+    let m : n + suc (length log) ≡ (n + 1) + length log = omega arith in
+    (h.0, h.1, ordered-push (n + 1) log id c hints h.2 (omega (arith, e, m)) (subst (λ k. All (λ x. x ≤ k) hints) m a))
+ordered-push n (Delete ids ∷ log) id c hints h e a = absurd h
+
+-- so after the rows the list is the given one with the rows' clauses
+ordered-state : (given : Clauses) (log : List LratRow) → AreOrdered (length given.clauses) log → after_rows (start given) log ≡ start (record given { clauses = given.clauses ++ additions log })
+ordered-state given [] h = ap (λ cs. start (record given { clauses = cs })) (sym (append-nil given.clauses))
+ordered-state given (Add id c hints ∷ log) h =
+    ap (λ s. after_rows s log) (row-after given id c hints h.0)
+    ∙ (ordered-state (record given { clauses = given.clauses ++ c ∷ [] }) log (subst (λ n. AreOrdered n log) (sym (length_push given.clauses c)) h.2)
+    ∙ ap (λ cs. start (record given { clauses = cs })) (append_assoc given.clauses (c ∷ []) (additions log)))
+ordered-state given (Delete ids ∷ log) h = absurd h
+
 pub logged-none : (given : Clauses) → IsLogged given given []
 logged-none given =
     record {
       vars = refl;
       grown = sym (append-nil given.clauses);
       accepted = tt;
-      state = refl;
+      ordered = tt;
       not_empty = All-nil (λ row. is_empty_addition row ≡ false);
-      fresh = tt;
-      count = refl;
     }
 
-pub logged-more : (given clauses : Clauses) (log : List LratRow) (id : ℕ) (c : List ℤ) (hints : List ℕ) → IsLogged given clauses log → id ≡ length clauses.clauses + 1 → All (IsWithin clauses.vars) c → has_both c ≡ false → Derives clauses.clauses c hints → is_nil c ≡ false → IsFresh clauses.clauses c → IsLogged given (record clauses { clauses = clauses.clauses ++ c ∷ [] }) (log ++ Add id c hints ∷ [])
-logged-more given clauses log id c hints h e w b d some f =
+-- the list is the given one with the rows' clauses
+logged-list : (given clauses : Clauses) (log : List LratRow) → IsLogged given clauses log → record given { clauses = given.clauses ++ additions log } ≡ clauses
+logged-list given clauses log h =
+    let f : ℕ → Clauses = λ v. record { vars = v; clauses = given.clauses ++ additions log } in
+    let g : List (List ℤ) → Clauses = λ cs. record { vars = clauses.vars; clauses = cs } in
+    ap f (sym h.vars) ∙ ap g (sym h.grown)
+
+pub logged-count : (given clauses : Clauses) (log : List LratRow) → IsLogged given clauses log → length given.clauses + length log ≡ length clauses.clauses
+logged-count given clauses log h =
+    let e : length clauses.clauses ≡ length given.clauses + length (additions log) = ap length h.grown ∙ length-append given.clauses (additions log) in
+    let n : length (additions log) ≡ length log = ordered-count (length given.clauses) log h.ordered in
+    omega (arith, e, n)
+
+logged-state : (given clauses : Clauses) (log : List LratRow) → IsLogged given clauses log → after_rows (start given) log ≡ start clauses
+logged-state given clauses log h = ordered-state given log h.ordered ∙ ap start (logged-list given clauses log h)
+
+pub logged-more : (given clauses : Clauses) (log : List LratRow) (id : ℕ) (c : List ℤ) (hints : List ℕ) → IsLogged given clauses log → id ≡ length clauses.clauses + 1 → All (IsWithin clauses.vars) c → has_both c ≡ false → Derives clauses.clauses c hints → is_nil c ≡ false → All (λ h. h ≤ length clauses.clauses) hints → IsLogged given (record clauses { clauses = clauses.clauses ++ c ∷ [] }) (log ++ Add id c hints ∷ [])
+logged-more given clauses log id c hints h e w b d some named =
+    let n : length given.clauses + length log ≡ length clauses.clauses = logged-count given clauses log h in
     record {
       vars = h.vars;
       grown = ap (λ x. x ++ c ∷ []) h.grown ∙ (append_assoc given.clauses (additions log) (c ∷ []) ∙ ap (λ x. given.clauses ++ x) (sym (additions-push log id c hints)));
-      accepted = accepted-push (start given) log (Add id c hints) h.accepted (ap (λ s. row_fault s (Add id c hints)) h.state ∙ row-accepted clauses id c hints e w b d);
-      state = after-push (start given) log (Add id c hints) ∙ (ap (λ s. after_row s (Add id c hints)) h.state ∙ row-after clauses id c hints e);
+      accepted = accepted-push (start given) log (Add id c hints) h.accepted (ap (λ s. row_fault s (Add id c hints)) (logged-state given clauses log h) ∙ row-accepted clauses id c hints e w b d);
+      ordered = ordered-push (length given.clauses) log id c hints h.ordered (omega (arith, e, n)) (subst (λ k. All (λ x. x ≤ k) hints) (sym n) named);
       not_empty = All-push (λ row. is_empty_addition row ≡ false) log (Add id c hints) h.not_empty some;
-      fresh = subst (AreFresh given.clauses) (sym (additions-push log id c hints)) (fresh-push given.clauses (additions log) c h.fresh (subst (λ x. IsFresh x c) h.grown f));
-      count = ap length (additions-push log id c hints) ∙ (length_push (additions log) c ∙ (ap (λ n. n + 1) h.count ∙ sym (length_push log (Add id c hints))));
     }
 
 -- with the row of the empty clause the log refutes the list
@@ -91,7 +122,7 @@ logged-refutes given clauses log id hints h e d =
       row = Add id [] hints;
       after = [];
       parts = refl;
-      accepted = accepted-push (start given) log (Add id [] hints) h.accepted (ap (λ s. row_fault s (Add id [] hints)) h.state ∙ row-accepted clauses id [] hints e (All-nil (IsWithin clauses.vars)) refl d);
+      accepted = accepted-push (start given) log (Add id [] hints) h.accepted (ap (λ s. row_fault s (Add id [] hints)) (logged-state given clauses log h) ∙ row-accepted clauses id [] hints e (All-nil (IsWithin clauses.vars)) refl d);
       empty = refl;
     }
 

@@ -1,9 +1,9 @@
 -- What the marks of a conflict come to.
-use Rattle.std.proofs.Common.{◌≡◌, ◌≢◌, ◌⊎◌, ℕ, ◌+◌, ◌<◌, ◌≤◌, Bool, true, false, List, [], length, take, get_or, ℤ, neg_ℤ, sym, ◌∙◌, ap, subst, inl, inr, arith}
-use Rattle.std.proofs.lemmas.Bool.{cases_lt, false≢true}
+use Rattle.std.proofs.Common.{◌≡◌, ◌≢◌, ◌⊎◌, ℕ, ◌+◌, ◌<◌, ◌≤◌, Bool, true, false, eqb, List, [], length, take, get_or, ℤ, neg_ℤ, sym, ◌∙◌, ap, subst, inl, inr, arith}
+use Rattle.std.proofs.lemmas.Bool.{cases_lt, cases_Bool, cond-true, cond-false, eq-eqb, false≢true}
 use Rattle.std.proofs.lemmas.List.{get_or_past}
 use Rattle.std.proofs.lemmas.List.Elements.{All-weaker}
-use Rattle.std.specs.List.{All}
+use Rattle.std.specs.List.{All, list_all}
 use Rattle.hk_cnf.specs.declared.hint.Hint.TheVariants.{False, Other}
 use Rattle.hk_cnf.specs.Literal.{place_of, has}
 use Rattle.hk_cnf.specs.Hint.{Several}
@@ -12,9 +12,10 @@ use Rattle.hk_cnf.proofs.Tells.{tells-at}
 use Rattle.hk_cdcl.specs.Fresh.{AreQuiet}
 use Rattle.hk_cdcl.specs.Path.{Path, IsReason, AreReasons, lit_at, clause_at}
 use Rattle.hk_cdcl.specs.Propagation.{IsConflict}
-use Rattle.hk_cdcl.specs.Analysis.{seen_at, AreSeen, HasVariable, Marks, IsLowestOf, IsLowest, Closed, IsTraced}
+use Rattle.hk_cdcl.specs.Analysis.{seen_at, AreSeen, HasVariable, Marks, IsLowestOf, IsLowest, Closed, IsResolved, IsTraced, is_redundant, AreNamed}
 use Rattle.hk_cdcl.proofs.Places.{has-place, has-take, At, place_of-neg}
-use Rattle.hk_cdcl.proofs.Resolving.{seen-more, marked-variable}
+use Rattle.hk_cdcl.proofs.Resolving.{seen-more, marked-variable, reason-single}
+use Rattle.hk_lrat.proofs.Sound.{all-pass}
 
 -- the literals of a false clause are false by the trail
 pub conflict-false : (clauses : List (List ℤ)) (lits : List ℤ) (n : ℕ) → IsConflict clauses lits n → All (λ x. has lits (neg_ℤ x) ≡ true) (get_or clauses n [])
@@ -75,34 +76,52 @@ lowest-conflict clauses lits below old new n lowest h quiet le none m l = pick l
     pick (inl e) = absurd (omega (arith, e, inside))
     pick (inr k) = record { least = least; after = k.0; inside = k.1; marked = marked-variable new (get_or clauses n []) (place_of (lit_at lits lowest)) m.marked k.2 }
 
-pub traced : (clauses : List (List ℤ)) (p : Path) (first mid new : List Bool) (floor below uip conflict : ℕ) → floor ≤ below → below ≤ length p.lits → AreSeen first (get_or clauses conflict []) → IsLowest p.lits below mid uip → Closed clauses p first mid (uip + 1) (length p.lits) → Closed clauses p mid new 0 floor → AreReasons clauses p 0 floor → AreReasons clauses p (below + 1) (length p.lits) → IsTraced clauses p new floor below uip conflict
-traced clauses p first mid new floor below uip conflict le ge s h a b f l =
+pub traced : (clauses : List (List ℤ)) (p : Path) (first new : List Bool) (below uip conflict : ℕ) → AreSeen first (get_or clauses conflict []) → IsLowest p.lits below new uip → Closed clauses p first new (uip + 1) (length p.lits) → AreReasons clauses p (below + 1) (length p.lits) → IsTraced clauses p new (λ n. false) below uip conflict
+traced clauses p first new below uip conflict s h a l =
     record {
-      conflict_seen = seen-more first new (get_or clauses conflict []) (λ v k. b.kept v (a.kept v k)) s;
+      conflict_seen = seen-more first new (get_or clauses conflict []) a.kept s;
       reason = λ n lt r k. reason n lt r k;
       reason_seen = λ n lt r k. seen n lt r k;
     }
   where
     later : (n : ℕ) → n < length p.lits → below ≤ n → n ≢ uip → seen_at new (lit_at p.lits n) ≡ true → uip < n
-    later n lt le_n d k = let c : uip ≤ n = h.least n le_n lt (b.earlier n (omega (arith, le, le_n)) lt k) in omega (arith, c, d)
+    later n lt le_n d k = let c : uip ≤ n = h.least n le_n lt k in omega (arith, c, d)
 
-    reason : (n : ℕ) → n < length p.lits → (n < floor) ⊎ ((below ≤ n) × (n ≢ uip)) → seen_at new (lit_at p.lits n) ≡ true → IsReason clauses p.lits n (get_or p.reasons n 0)
-    reason n lt (inl z) k = f.each n (omega arith) z
+    reason : (n : ℕ) → n < length p.lits → IsResolved (λ m. false) below uip n → seen_at new (lit_at p.lits n) ≡ true → IsReason clauses p.lits n (get_or p.reasons n 0)
+    reason n lt (inl (e, z)) k = absurd (false≢true e)
     reason n lt (inr (b_n, d)) k =
         let c : uip < n = later n lt b_n d k in
         let e : below ≤ uip = h.after in
         l.each n (omega (arith, c, e)) lt
 
-    seen : (n : ℕ) → n < length p.lits → (n < floor) ⊎ ((below ≤ n) × (n ≢ uip)) → seen_at new (lit_at p.lits n) ≡ true → AreSeen new (clause_at clauses (get_or p.reasons n 0))
-    seen n lt (inl z) k = b.closed n (omega arith) z k
+    seen : (n : ℕ) → n < length p.lits → IsResolved (λ m. false) below uip n → seen_at new (lit_at p.lits n) ≡ true → AreSeen new (clause_at clauses (get_or p.reasons n 0))
+    seen n lt (inl (e, z)) k = absurd (false≢true e)
     seen n lt (inr (b_n, d)) k =
         let c : uip < n = later n lt b_n d k in
-        seen-more mid new (clause_at clauses (get_or p.reasons n 0)) b.kept (a.closed n (omega (arith, c)) lt (b.earlier n (omega (arith, le, b_n)) lt k))
+        a.closed n (omega (arith, c)) lt k
 
-pub traced-zero : (clauses : List (List ℤ)) (p : Path) (first new : List Bool) (conflict : ℕ) → AreSeen first (get_or clauses conflict []) → Closed clauses p first new 0 (length p.lits) → AreReasons clauses p 0 (length p.lits) → IsTraced clauses p new (length p.lits) (length p.lits) (length p.lits) conflict
+pub traced-zero : (clauses : List (List ℤ)) (p : Path) (first new : List Bool) (conflict : ℕ) → AreSeen first (get_or clauses conflict []) → Closed clauses p first new 0 (length p.lits) → AreReasons clauses p 0 (length p.lits) → IsTraced clauses p new (λ n. true) (length p.lits) (length p.lits) conflict
 traced-zero clauses p first new conflict s b f =
     record {
       conflict_seen = seen-more first new (get_or clauses conflict []) b.kept s;
       reason = λ n lt r k. f.each n (omega arith) lt;
       reason_seen = λ n lt r k. b.closed n (omega arith) lt k;
     }
+
+-- a place that is dropped has a reason, whose literals are all marked, and so is its own
+pub redundant-parts : (clauses : List (List ℤ)) (p : Path) (seen : List Bool) (n : ℕ) → AreNamed clauses p → n < length p.lits → is_redundant clauses p seen n ≡ true → IsReason clauses p.lits n (get_or p.reasons n 0) × AreSeen seen (clause_at clauses (get_or p.reasons n 0)) × (seen_at seen (lit_at p.lits n) ≡ true)
+redundant-parts clauses p seen n h lt e = pick (cases_Bool (eqb (get_or p.reasons n 0) 0))
+  where
+    marks : list_all (seen_at seen) (clause_at clauses (get_or p.reasons n 0)) ≡ true → AreSeen seen (clause_at clauses (get_or p.reasons n 0))
+    marks m = all-pass (seen_at seen) (clause_at clauses (get_or p.reasons n 0)) m
+
+    named : eqb (get_or p.reasons n 0) 0 ≡ false → (get_or p.reasons n 0 ≡ 0) ⊎ IsReason clauses p.lits n (get_or p.reasons n 0) → IsReason clauses p.lits n (get_or p.reasons n 0)
+    named f (inl z) = absurd (false≢true (sym f ∙ eq-eqb (get_or p.reasons n 0) 0 z))
+    named f (inr r) = r
+
+    pick : (eqb (get_or p.reasons n 0) 0 ≡ true) ⊎ (eqb (get_or p.reasons n 0) 0 ≡ false) → IsReason clauses p.lits n (get_or p.reasons n 0) × AreSeen seen (clause_at clauses (get_or p.reasons n 0)) × (seen_at seen (lit_at p.lits n) ≡ true)
+    pick (inl z) = absurd (false≢true (sym (cond-true (eqb (get_or p.reasons n 0) 0) false (list_all (seen_at seen) (clause_at clauses (get_or p.reasons n 0))) z) ∙ e))
+    pick (inr z) =
+        let r : IsReason clauses p.lits n (get_or p.reasons n 0) = named z (h.each n lt) in
+        let m : AreSeen seen (clause_at clauses (get_or p.reasons n 0)) = marks (sym (cond-false (eqb (get_or p.reasons n 0) 0) false (list_all (seen_at seen) (clause_at clauses (get_or p.reasons n 0))) z) ∙ e) in
+        (r, m, all-has (λ l. seen_at seen l ≡ true) (clause_at clauses (get_or p.reasons n 0)) (lit_at p.lits n) m (reason-single clauses p.lits n (get_or p.reasons n 0) r).member)

@@ -5,7 +5,7 @@ use Rattle.std.proofs.lemmas.List.{set-get_or, get_or_past}
 use Rattle.std.proofs.lemmas.List.Elements.{All-push, Contains-append_left, Contains-push}
 use Rattle.std.specs.List.{All, Contains}
 use Rattle.hk_cnf.specs.Literal.{place_of}
-use Rattle.hk_cdcl.specs.Path.{Path, AreReasons, lit_at}
+use Rattle.hk_cdcl.specs.Path.{lit_at}
 use Rattle.hk_cdcl.specs.Analysis.{IsTracked}
 use Rattle.hk_cdcl.proofs.Marking.{set-only}
 
@@ -43,6 +43,3 @@ tracked-later lits below seen l place lower at le h =
     pick : (n : ℕ) → n < below → n < length lits → (get_or seen (place_of (lit_at lits n)) false ≡ true) ⊎ (place_of l ≡ place_of (lit_at lits n)) → Contains lower n
     pick n a b (inl s) = h.complete n a b s
     pick n a b (inr e) = let p : place ≡ n = at n b (sym e) in absurd (omega (arith, a, le, p))
-
-pub reasons-none : (clauses : List (List ℤ)) (p : Path) → AreReasons clauses p 0 0
-reasons-none clauses p = record { each = λ n a lt. absurd (omega (arith, lt)) }

@@ -1,6 +1,6 @@
 -- Which literals a conflict rests on, and the clause that is learned from it.
-use Rattle.std.specs.Prelude.{◌≡◌, ◌⊎◌, ℕ, ◌-◌, ◌<◌, ◌≤◌, ◌≢◌, Bool, true, false, List, [], length, take, ℤ, neg_ℤ, slice_index, slice_index_or, None}
-use Rattle.std.specs.List.{All, Contains}
+use Rattle.std.specs.Prelude.{◌≡◌, ◌⊎◌, ℕ, ◌-◌, ◌<◌, ◌≤◌, ◌≢◌, ◌==◌, Bool, true, false, if◌then◌else◌, List, [], length, take, ℤ, neg_ℤ, slice_index, slice_index_or, None}
+use Rattle.std.specs.List.{All, Contains, list_all}
 use Rattle.hk_cnf.specs.Literal.{IsWithin, place_of, has, denied}
 use Rattle.hk_lrat.specs.Log.{numbered, has_both, follow}
 use Rattle.hk_cdcl.specs.Path.{Path, IsReason, lit_at, clause_at}
@@ -54,31 +54,39 @@ pub record Closed (clauses : List (List ℤ)) (p : Path) (old new : List Bool) (
   pub earlier : (n : ℕ) → to ≤ n → n < length p.lits → seen_at new (lit_at p.lits n) ≡ true → seen_at old (lit_at p.lits n) ≡ true
   pub closed : (n : ℕ) → from ≤ n → n < to → seen_at new (lit_at p.lits n) ≡ true → AreSeen new (clause_at clauses (slice_index p.reasons n))
 
--- a marked literal at the place is kept: it is of a level between zero and the conflict's, or the unique implication point
-abbrev pub IsKept : ℕ → ℕ → ℕ → ℕ → Type 0
-IsKept first below uip n = ((first ≤ n) × (n < below)) ⊎ (n ≡ uip)
+-- each literal of the trail is a decision or has a reason
+pub record AreNamed (clauses : List (List ℤ)) (p : Path) : Type 0 where
+  pub each : (n : ℕ) → n < length p.lits → (slice_index p.reasons n ≡ 0) ⊎ IsReason clauses p.lits n (slice_index p.reasons n)
 
--- or it is resolved: it is of level zero, or another one of the conflict's level
-abbrev pub IsResolved : ℕ → ℕ → ℕ → ℕ → Type 0
-IsResolved first below uip n = (n < first) ⊎ ((below ≤ n) × (n ≢ uip))
+-- the literal at the place has a reason whose literals are all marked: the other marked literals imply it
+abbrev pub is_redundant : List (List ℤ) → Path → List Bool → ℕ → Bool
+is_redundant clauses p seen n = if slice_index p.reasons n == 0 then false else list_all (seen_at seen) (clause_at clauses (slice_index p.reasons n))
+
+-- a marked literal at the place is kept: it is of an earlier level and not dropped, or the unique implication point
+abbrev pub IsKept : (ℕ → Bool) → ℕ → ℕ → ℕ → Type 0
+IsKept drops below uip n = ((drops n ≡ false) × (n < below)) ⊎ (n ≡ uip)
+
+-- or it is resolved: it is of an earlier level and dropped, or another one of the conflict's level
+abbrev pub IsResolved : (ℕ → Bool) → ℕ → ℕ → ℕ → Type 0
+IsResolved drops below uip n = ((drops n ≡ true) × (n < below)) ⊎ ((below ≤ n) × (n ≢ uip))
 
 -- the literals of the conflict are marked, and those of the reasons of all marked literals that are resolved
-pub record IsTraced (clauses : List (List ℤ)) (p : Path) (seen : List Bool) (first below uip conflict : ℕ) : Type 0 where
+pub record IsTraced (clauses : List (List ℤ)) (p : Path) (seen : List Bool) (drops : ℕ → Bool) (below uip conflict : ℕ) : Type 0 where
   pub conflict_seen : AreSeen seen (slice_index_or clauses conflict [])
-  pub reason : (n : ℕ) → n < length p.lits → IsResolved first below uip n → seen_at seen (lit_at p.lits n) ≡ true → IsReason clauses p.lits n (slice_index p.reasons n)
-  pub reason_seen : (n : ℕ) → n < length p.lits → IsResolved first below uip n → seen_at seen (lit_at p.lits n) ≡ true → AreSeen seen (clause_at clauses (slice_index p.reasons n))
+  pub reason : (n : ℕ) → n < length p.lits → IsResolved drops below uip n → seen_at seen (lit_at p.lits n) ≡ true → IsReason clauses p.lits n (slice_index p.reasons n)
+  pub reason_seen : (n : ℕ) → n < length p.lits → IsResolved drops below uip n → seen_at seen (lit_at p.lits n) ≡ true → AreSeen seen (clause_at clauses (slice_index p.reasons n))
 
 -- the literal is the negation of a kept one
-pub record IsNegated (lits : List ℤ) (first below uip : ℕ) (l : ℤ) : Type 0 where
+pub record IsNegated (lits : List ℤ) (drops : ℕ → Bool) (below uip : ℕ) (l : ℤ) : Type 0 where
   pub place : ℕ
   pub inside : place < length lits
-  pub kept : IsKept first below uip place
+  pub kept : IsKept drops below uip place
   pub is : lit_at lits place ≡ neg_ℤ l
 
 -- the clause has the negations of the marked literals that are kept, and no others
-pub record AreNegations (lits : List ℤ) (seen : List Bool) (first below uip : ℕ) (clause : List ℤ) : Type 0 where
-  pub sound : All (IsNegated lits first below uip) clause
-  pub complete : (n : ℕ) → n < length lits → IsKept first below uip n → seen_at seen (lit_at lits n) ≡ true → has clause (neg_ℤ (lit_at lits n)) ≡ true
+pub record AreNegations (lits : List ℤ) (seen : List Bool) (drops : ℕ → Bool) (below uip : ℕ) (clause : List ℤ) : Type 0 where
+  pub sound : All (IsNegated lits drops below uip) clause
+  pub complete : (n : ℕ) → n < length lits → IsKept drops below uip n → seen_at seen (lit_at lits n) ≡ true → has clause (neg_ℤ (lit_at lits n)) ≡ true
 
 -- the clause leaves the literal unset at the end of the level that ends at `rest`, and makes the others false there;
 -- the last of them became false just before
@@ -100,6 +108,7 @@ pub record IsLearned (clauses : List (List ℤ)) (p : Path) (below : ℕ) (claus
   pub within : All (IsWithin p.vars) clause
   pub not_both : has_both clause ≡ false
   pub derived : Derives clauses clause hints
+  pub hinted : All (λ h. h ≤ length clauses) hints
   pub asserting : IsAsserting p.lits below rest clause
 
 -- each marked place before `below` is kept

@@ -11,3 +11,5 @@ pub mod Ends
 pub mod Watches
 pub mod Watching
 pub mod Order
+pub mod Held
+pub mod Rounds

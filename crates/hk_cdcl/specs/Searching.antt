@@ -4,10 +4,10 @@ use Rattle.std.specs.List.{All, AllPairs}
 use Rattle.hk_cnf.specs.Literal.{has}
 use Rattle.hk_cnf.specs.Clauses.{Clauses}
 use Rattle.hk_lrat.specs.declared.log.LratRow.{LratRow}
-use Rattle.hk_lrat.specs.declared.log.LratRow.TheVariants.{Add}
+use Rattle.hk_lrat.specs.declared.log.LratRow.TheVariants.{Add, Delete}
 use Rattle.hk_lrat.specs.Log.{State, start, after_row, is_empty_addition}
 use Rattle.hk_lrat.specs.Refutes.{AreAccepted}
-use Rattle.hk_cdcl.specs.Fresh.{AreQuiet, AreFresh, additions}
+use Rattle.hk_cdcl.specs.Fresh.{AreQuiet, additions}
 use Rattle.hk_cdcl.specs.Path.{Path, IsReason}
 
 -- after the rows
@@ -15,15 +15,19 @@ abbrev pub after_rows : State → List LratRow → State
 after_rows s [] = s
 after_rows s (row ∷ rows) = after_rows (after_row s row) rows
 
--- the clauses are the given ones and then those of the log, whose rows are accepted, not empty and fresh
+-- the rows add clauses under the ids from n + 1 on, in order, each by hints before its id
+abbrev pub AreOrdered : ℕ → List LratRow → Type 0
+AreOrdered n [] = Unit {0}
+AreOrdered n (Add id c hints ∷ rows) = (id ≡ n + 1) × All (λ h. h ≤ n) hints × AreOrdered (n + 1) rows
+AreOrdered n (Delete ids ∷ rows) = ⊥
+
+-- the clauses are the given ones and then those of the log, whose rows are accepted and not empty
 pub record IsLogged (given clauses : Clauses) (log : List LratRow) : Type 0 where
   pub vars : clauses.vars ≡ given.vars
   pub grown : clauses.clauses ≡ given.clauses ++ additions log
   pub accepted : AreAccepted (start given) log
-  pub state : after_rows (start given) log ≡ start clauses
+  pub ordered : AreOrdered (length given.clauses) log
   pub not_empty : All (λ row. is_empty_addition row ≡ false) log
-  pub fresh : AreFresh given.clauses (additions log)
-  pub count : length (additions log) ≡ length log
 
 -- each literal of the trail is a decision or has a reason; the levels begin at the decisions, and where a level begins
 -- unit propagation had nothing left to do
@@ -33,6 +37,7 @@ pub record IsLeveled (clauses : Clauses) (p : Path) (levels : List ℕ) : Type 0
   pub quiet : All (λ level. AreQuiet (has (take level p.lits)) clauses.clauses) levels
   pub rising : AllPairs (λ d e. d < e) levels
   pub inside : All (λ level. level < length p.lits) levels
+  pub decided : All (λ level. slice_index p.reasons level ≡ 0) levels
 
 -- the levels that begin at `rest` or later are dropped; the first of them began at `target`
 pub record IsJump (levels kept : List ℕ) (rest target : ℕ) : Type 0 where

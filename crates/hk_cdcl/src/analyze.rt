@@ -100,7 +100,7 @@ fn lowest_of(trail: &Trail, below: usize, clause: &[Lit], lowest: usize) -> usiz
 }
 
 /// The clause that made the literal at the place true.
-fn reason_of<'a>(clauses: &'a ClauseList, trail: &Trail, place: usize) -> &'a [Lit]
+pub fn reason_of<'a>(clauses: &'a ClauseList, trail: &Trail, place: usize) -> &'a [Lit]
     requires inside { place < length trail.now.lits }
     requires reason { IsReason clauses.now.clauses trail.now.lits place (slice_index trail.now.reasons place) }
     ensures same { result.now ≡ clause_at clauses.now.clauses (slice_index trail.now.reasons place) }
@@ -124,6 +124,7 @@ fn resolve(
     requires reason { IsReason clauses.now.clauses trail.now.lits place (slice_index trail.now.reasons place) }
     requires inside { place < length trail.now.lits }
     ensures len { length seen.new ≡ length seen.old }
+    ensures marks { seen_at seen.old (lit_at trail.now.lits place) ≡ true → OnOk result (Marks seen.old seen.new (clause_at clauses.now.clauses (slice_index trail.now.reasons place))) }
     ensures resolved { OnOk result (Resolved clauses.now.clauses trail.now seen.old seen.new place) }
     ensures lower { OnOk result (IsTracked trail.now.lits below seen.old lower.old.items → IsTracked trail.now.lits below seen.new lower.new.items) }
 {
@@ -160,9 +161,8 @@ fn resolve_level(
     if !is_seen(trail, seen, place) {
         return Ok(lowest);
     }
-    let reason = reason_of(clauses, trail, place);
-    mark_all(seen, trail, below, reason, lower)?;
-    let least = lowest_of(trail, below, reason, lowest);
+    resolve(clauses, trail, below, seen, place, lower)?;
+    let least = lowest_of(trail, below, reason_of(clauses, trail, place), lowest);
     Ok(least)
 }
 
@@ -239,7 +239,7 @@ pub fn analyze(
     requires level { AreReasons clauses.now.clauses trail.now (below + 1) (length trail.now.lits) }
     ensures len { length seen.new ≡ length seen.old }
     ensures uip { IfOk result (IsLowest trail.now.lits below seen.new) }
-    ensures traced { IfOk result (λ r. IsTraced clauses.now.clauses trail.now seen.new 0 below r conflict) }
+    ensures traced { IfOk result (λ r. IsTraced clauses.now.clauses trail.now seen.new (λ _. false) below r conflict) }
     ensures lower { OnOk result (IsTracked trail.now.lits below seen.new lower.new.items) }
 {
     seen.clear();
@@ -264,7 +264,7 @@ pub fn analyze_zero(
     requires conflict { IsConflict clauses.now.clauses trail.now.lits conflict }
     requires first { AreReasons clauses.now.clauses trail.now 0 (length trail.now.lits) }
     ensures len { length seen.new ≡ length seen.old }
-    ensures traced { OnOk result (let n = length trail.now.lits in IsTraced clauses.now.clauses trail.now seen.new n n n conflict) }
+    ensures traced { OnOk result (let n = length trail.now.lits in IsTraced clauses.now.clauses trail.now seen.new (λ _. true) n n conflict) }
 {
     seen.clear();
     let len = trail.len();

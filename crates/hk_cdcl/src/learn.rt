@@ -1,15 +1,17 @@
 //! Learning: the clause that a conflict rests on, and the hints that derive it by unit propagation.
 
-ghost use Rattle.std.specs.Prelude.{◌≡◌, ◌+◌, ◌^◌, ◌<◌, ◌≤◌, Bool, List, ℤ, [], length, take, neg_ℤ, IfOk, OnOk};
+ghost use Rattle.std.specs.Prelude.{◌≡◌, ◌+◌, ◌^◌, ◌<◌, ◌≤◌, ℕ, Bool, List, ℤ, [], length, take, neg_ℤ, IfOk, OnOk};
+ghost use Rattle.std.specs.List.Sorted.{IsNonDecreasing};
 ghost use Rattle.std.specs.List.{All};
 ghost use Rattle.hk_cnf.specs.Literal.{has};
 ghost use Rattle.hk_cdcl.specs.Fresh.{AreQuiet};
 ghost use Rattle.hk_cdcl.specs.Path.{AreReasons, lit_at};
 ghost use Rattle.hk_cdcl.specs.Propagation.{IsConflict};
-ghost use Rattle.hk_cdcl.specs.Analysis.{seen_at, IsTracked, IsLearned, Derives};
-ghost use Rattle.hk_cdcl.specs.Learning.{KeptAt, Collected, HintAt, IsDerivable};
+ghost use Rattle.hk_cdcl.specs.Analysis.{seen_at, is_redundant, AreNamed, IsTracked, IsLearned, Derives};
+ghost use Rattle.hk_cdcl.specs.Learning.{KeptAt, SortedAt, Collected, HintAt, HintedOnce, IsDerivable, Leads};
 
 use crate::analyze::{analyze, analyze_zero, is_seen};
+use crate::minimize::{is_redundant, sort_places};
 use crate::order::Order;
 use crate::seen::Seen;
 use crate::trail::Trail;
@@ -47,27 +49,111 @@ fn add_kept(
     }
 }
 
+/// What was collected from the marked places before the conflict's level.
+#[derive(Drop)]
+struct Parts {
+    clause: Vec<Lit>,
+    dropped: Vec<usize>,
+    rest: usize,
+}
+
+/// Drops the place where the other marked literals imply its literal, and else adds the negation. Gives the place behind the
+/// last one added.
+fn add_place(
+    clauses: &ClauseList,
+    trail: &Trail,
+    seen: &Seen,
+    place: usize,
+    clause: &mut Vec<Lit>,
+    dropped: &mut Vec<usize>,
+    rest: usize,
+) -> Result<usize, AllocError>
+    requires vars { trail.now.vars ≡ clauses.now.vars }
+    requires each { length seen.now ≡ trail.now.vars }
+    requires named { AreNamed clauses.now.clauses trail.now }
+    requires inside { place < length trail.now.lits }
+    requires fits { place + 1 < 2 ^ 64 }
+    ensures { IfOk result (SortedAt (is_redundant clauses.now.clauses trail.now seen.now) (neg_ℤ (lit_at trail.now.lits place)) place clause.old.items clause.new.items dropped.old.items dropped.new.items rest) }
+{
+    if is_redundant(clauses, trail, seen, place) {
+        dropped.push(place)?;
+        return Ok(rest);
+    }
+    add_kept(trail, place, clause, rest)
+}
+
 /// The negations of the literal at the unique implication point and of those at the marked places before the conflict's
-/// level, and the place behind the last of these.
+/// level that the others do not imply, and the place behind the last of these; and the places that are dropped.
 fn collect(
     alloc: Global,
+    clauses: &ClauseList,
     trail: &Trail,
+    seen: &Seen,
     lower: &[usize],
     below: usize,
     uip: usize,
-) -> Result<(Vec<Lit>, usize), AllocError>
-    requires lower { All (λ n. n < below) lower.now }
+) -> Result<Parts, AllocError>
+    requires vars { trail.now.vars ≡ clauses.now.vars }
+    requires each { length seen.now ≡ trail.now.vars }
+    requires named { AreNamed clauses.now.clauses trail.now }
+    requires lower { IsTracked trail.now.lits below seen.now lower.now }
     requires after { below ≤ uip }
     requires inside { uip < length trail.now.lits }
-    ensures { IfOk result (λ r. (seen : List Bool) → IsTracked trail.now.lits below seen lower.now → Collected trail.now.lits seen 0 below uip r.0.items r.1) }
+    ensures { IfOk result (λ r. Collected trail.now.lits seen.now (is_redundant clauses.now.clauses trail.now seen.now) below uip r.clause.items r.dropped.items r.rest) }
 {
     let mut clause = Vec::new(alloc);
+    let mut dropped = Vec::new(alloc);
     clause.push(trail.lit(uip).negated())?;
     let mut rest = 0;
     for place in lower {
-        rest = add_kept(trail, *place, &mut clause, rest)?;
+        rest = add_place(
+            clauses,
+            trail,
+            seen,
+            *place,
+            &mut clause,
+            &mut dropped,
+            rest,
+        )?;
     }
-    Ok((clause, rest))
+    Ok(Parts {
+        clause,
+        dropped,
+        rest,
+    })
+}
+
+/// Adds the id of the reason of the literal at the place, where the places before `next` are done with. Gives the next one.
+fn hint_once(
+    trail: &Trail,
+    place: usize,
+    hints: &mut IdList,
+    next: usize,
+) -> Result<usize, AllocError>
+    requires inside { place < length trail.now.lits }
+    requires fits { place + 1 < 2 ^ 64 }
+    ensures { IfOk result (HintedOnce trail.now place hints.old hints.new next) }
+{
+    if place < next {
+        return Ok(next);
+    }
+    hints.push(trail.reason(place))?;
+    Ok(place + 1)
+}
+
+/// The ids of the reasons of the literals at these places, which are in order.
+fn dropped_hints(alloc: Global, trail: &Trail, dropped: &[usize]) -> Result<IdList, AllocError>
+    requires inside { All (λ n. n < length trail.now.lits) dropped.now }
+    requires rising { IsNonDecreasing dropped.now }
+    ensures { IfOk result (λ hints. (clauses : List (List ℤ)) (seen : List Bool) (from : ℕ) (c : List ℤ) (conflict : ℕ) → from ≤ length trail.now.lits → IsDerivable clauses trail.now seen dropped.now from c conflict → Leads clauses c seen trail.now.lits from hints) }
+{
+    let _path = trail.len();
+    let mut hints = IdList::new(alloc);
+    let mut next = 0;
+    for place in dropped {
+        next = hint_once(trail, *place, &mut hints, next)?;
+    }
+    Ok(hints)
 }
 
 /// Adds the id of the reason of the literal at the place where it is marked.
@@ -82,20 +168,25 @@ fn add_hint(trail: &Trail, seen: &Seen, place: usize, hints: &mut IdList) -> Res
     Ok(())
 }
 
-/// The ids of the reasons of all marked literals from a place on, in the order of the trail, and last that of the conflict.
+/// The ids of the reasons of the dropped literals and of all marked literals from a place on, in the order of the trail, and
+/// last that of the conflict.
 fn hints_of(
     alloc: Global,
     trail: &Trail,
     seen: &Seen,
+    dropped: &[usize],
     from: usize,
     conflict: usize,
 ) -> Result<IdList, AllocError>
     requires each { length seen.now ≡ trail.now.vars }
     requires inside { from ≤ length trail.now.lits }
+    requires low { All (λ n. n < length trail.now.lits) dropped.now }
+    requires rising { IsNonDecreasing dropped.now }
     requires fits { conflict + 1 < 2 ^ 64 }
-    ensures { IfOk result (λ hints. (clauses : List (List ℤ)) (c : List ℤ) → IsDerivable clauses trail.now seen.now from c conflict → Derives clauses c hints) }
+    ensures derives { IfOk result (λ hints. (clauses : List (List ℤ)) (c : List ℤ) → IsDerivable clauses trail.now seen.now dropped.now from c conflict → Derives clauses c hints) }
+    ensures hinted { IfOk result (λ hints. (clauses : List (List ℤ)) (c : List ℤ) → IsDerivable clauses trail.now seen.now dropped.now from c conflict → All (λ h. h ≤ length clauses) hints) }
 {
-    let mut hints = IdList::new(alloc);
+    let mut hints = dropped_hints(alloc, trail, dropped)?;
     for place in from..trail.len() {
         add_hint(trail, seen, place, &mut hints)?;
     }
@@ -137,7 +228,8 @@ fn raise_seen(order: &mut Order, trail: &Trail, seen: &Seen, from: usize)
 
 /// The clause that a conflict rests on, where `below` is the place of the last decision.
 ///
-/// Literals of the conflict's level are resolved up to the first unique implication point, and all others stay.
+/// Literals of the conflict's level are resolved up to the first unique implication point. Of the others those stay that
+/// the rest does not imply: one is dropped where its reason's other literals are all among those that were marked.
 pub fn learn(
     alloc: Global,
     clauses: &ClauseList,
@@ -152,6 +244,7 @@ pub fn learn(
     requires conflict { IsConflict clauses.now.clauses trail.now.lits conflict }
     requires quiet { AreQuiet (has (take below trail.now.lits)) clauses.now.clauses }
     requires inside { below ≤ length trail.now.lits }
+    requires named { AreNamed clauses.now.clauses trail.now }
     requires level { AreReasons clauses.now.clauses trail.now (below + 1) (length trail.now.lits) }
     ensures learned { IfOk result (λ r. IsLearned clauses.now.clauses trail.now below r.clause.items r.hints r.rest) }
     ensures len { length seen.new ≡ length seen.old }
@@ -161,8 +254,13 @@ pub fn learn(
     let _path = trail.len();
     let mut lower = Vec::new(alloc);
     let uip = analyze(clauses, trail, below, seen, conflict, &mut lower)?;
-    let (clause, rest) = collect(alloc, trail, lower.as_slice(), below, uip)?;
-    let hints = hints_of(alloc, trail, seen, uip + 1, conflict)?;
+    let Parts {
+        clause,
+        mut dropped,
+        rest,
+    } = collect(alloc, clauses, trail, seen, lower.as_slice(), below, uip)?;
+    sort_places(&mut dropped);
+    let hints = hints_of(alloc, trail, seen, dropped.as_slice(), uip + 1, conflict)?;
     raise_all(order, trail, seen, lower.as_slice(), uip);
     Ok(Learned {
         clause,
@@ -190,6 +288,6 @@ pub fn refute(
     let _path = trail.len();
     let mut lower = Vec::new(alloc);
     analyze_zero(clauses, trail, seen, conflict, &mut lower)?;
-    let hints = hints_of(alloc, trail, seen, 0, conflict)?;
+    let hints = hints_of(alloc, trail, seen, &[], 0, conflict)?;
     Ok(hints)
 }

@@ -6,6 +6,7 @@
 
 mod analyze;
 mod learn;
+mod minimize;
 mod order;
 mod propagate;
 mod restarts;
@@ -18,6 +19,6 @@ mod watched;
 mod watches;
 
 pub use propagate::{FullScan, Propagate};
-pub use solver::{SolveEnd, solve};
+pub use solver::{SolveEnd, Solver, solve};
 pub use trail::Trail;
 pub use watched::Watched;

@@ -1,13 +1,13 @@
 //! The search: what it keeps between two conflicts, and how it decides, learns and goes back.
 
-ghost use Rattle.std.specs.Prelude.{◌≡◌, ◌⊎◌, ◌+◌, ◌^◌, pos, negsuc, ◌-◌, ◌<◌, ◌≤◌, [], false, length, take, slice_index, IfOk, OnOk, IfSome, IfNone, MatchOption};
+ghost use Rattle.std.specs.Prelude.{◌≡◌, ◌⊎◌, ◌+◌, ◌^◌, pos, negsuc, ◌-◌, ◌<◌, ◌≤◌, [], false, length, take, slice_index, IfOk, OnOk, OnErr, IfSome, IfNone, MatchOption};
 ghost use Rattle.std.specs.List.{All, AllPairs};
 ghost use Rattle.hk_cnf.specs.Literal.{IsWithin, has};
 ghost use Rattle.hk_cdcl.specs.Fresh.{AreQuiet};
 ghost use Rattle.hk_cdcl.specs.Path.{is_set, AreSet, IsUnset, cut_at};
 ghost use Rattle.hk_cdcl.specs.Propagation.{IsConflict};
-ghost use Rattle.hk_cdcl.specs.Searching.{IsLogged, IsJump, with_clause, with_row};
-ghost use Rattle.hk_cdcl.specs.States.{Leveled, IsDecided, IsBack, IsRestarted, IsClosed, Stepped};
+ghost use Rattle.hk_cdcl.specs.Searching.{IsJump, with_clause, with_row};
+ghost use Rattle.hk_cdcl.specs.States.{Leveled, Grows, Spends, IsDecided, IsBack, IsRestarted, Closes, Stepped};
 ghost use Rattle.hk_cdcl.specs.Solved.{Satisfies};
 
 use crate::learn::{Learned, learn, refute};
@@ -20,7 +20,7 @@ use hk_lrat::{IdList, LitList, LratLog, LratRow};
 use std::alloc::{AllocError, Global};
 
 /// The same clauses, over memory of their own.
-fn copy_of(alloc: Global, list: &ClauseList) -> Result<ClauseList, AllocError>
+pub fn copy_of(alloc: Global, list: &ClauseList) -> Result<ClauseList, AllocError>
     ensures { IfOk result (λ copy. copy ≡ list.now) }
 {
     let mut copy = ClauseList::new(alloc, list.vars());
@@ -76,6 +76,8 @@ pub struct Search {
     pub order: Order,
     /// When to restart.
     pub restarts: Restarts,
+    /// How many clauses may still be learned.
+    pub left: u64,
 }
 
 /// The literal of the variable at a place that has this value.
@@ -112,11 +114,10 @@ fn release(order: &mut Order, trail: &Trail, kept: usize) {
 }
 
 impl Search {
-    /// Before the first step over this list.
+    /// Before the first call over this list.
     pub fn new(alloc: Global, list: &ClauseList) -> Result<Search, AllocError>
-        ensures searching { IfOk result (λ s. Leveled s × IsLogged list.now s.clauses s.log) }
         ensures clauses { IfOk result (λ s. s.clauses ≡ list.now) }
-        ensures trail { IfOk result (λ s. s.trail.lits ≡ []) }
+        ensures log { IfOk result (λ s. s.log ≡ []) }
     {
         let trail = Trail::new(alloc, list.vars())?;
         let clauses = copy_of(alloc, list)?;
@@ -131,7 +132,25 @@ impl Search {
             seen,
             order,
             restarts: Restarts::new(),
+            left: 0,
         })
+    }
+
+    /// Begins a call with this budget: nothing is set. Activities and the values that variables had last are kept.
+    pub fn begin(&mut self, alloc: Global, budget: u64) -> Result<(), AllocError>
+        ensures clauses { self.new.clauses ≡ self.old.clauses }
+        ensures log { self.new.log ≡ self.old.log }
+        ensures leveled { OnOk result (Leveled self.new) }
+        ensures trail { OnOk result (self.new.trail.lits ≡ []) }
+        ensures left { OnOk result (self.new.left ≡ budget) }
+    {
+        release(&mut self.order, &self.trail, 0);
+        let vars = self.clauses.vars();
+        self.trail = Trail::new(alloc, vars)?;
+        self.seen = Seen::new(alloc, vars)?;
+        self.levels.truncate(0);
+        self.left = budget;
+        Ok(())
     }
 
     /// Gives the variable at a place the value that it had last as a decision, where unit propagation has nothing left to do.
@@ -140,7 +159,10 @@ impl Search {
         requires quiet { AreQuiet (has self.old.trail.lits) self.old.clauses.clauses }
         requires within { place < self.old.trail.vars }
         requires unset { is_set self.old.trail.lits place ≡ false }
-        ensures { OnOk result (IsDecided self.old self.new) }
+        ensures clauses { self.new.clauses ≡ self.old.clauses }
+        ensures log { self.new.log ≡ self.old.log }
+        ensures left { self.new.left ≡ self.old.left }
+        ensures decided { OnOk result (IsDecided self.old self.new) }
     {
         let len = self.trail.len();
         self.levels.push(len)?;
@@ -155,7 +177,10 @@ impl Search {
     fn advance(&mut self, alloc: Global) -> Result<Option<Assignment>, AllocError>
         requires leveled { Leveled self.old }
         requires quiet { AreQuiet (has self.old.trail.lits) self.old.clauses.clauses }
-        ensures { IfOk result (λ r. MatchOption r (IsDecided self.old self.new) (Satisfies self.old.clauses)) }
+        ensures clauses { self.new.clauses ≡ self.old.clauses }
+        ensures log { self.new.log ≡ self.old.log }
+        ensures left { self.new.left ≡ self.old.left }
+        ensures advanced { IfOk result (λ r. MatchOption r (IsDecided self.old self.new) (Satisfies self.old.clauses)) }
     {
         let _within = self.clauses.len();
         match next_unset(&mut self.order, &self.trail) {
@@ -171,7 +196,7 @@ impl Search {
     }
 }
 
-/// Adds a clause with its row at the ends of the list and of the log.
+/// Adds a clause with its row at the ends of the list and of the log. Without memory both are as before.
 fn add_row(
     clauses: &mut ClauseList,
     log: &mut LratLog,
@@ -181,15 +206,35 @@ fn add_row(
     requires { All (IsWithin clauses.old.vars) clause.items }
     ensures clauses { OnOk result (clauses.new ≡ with_clause clauses.old clause.items) }
     ensures log { OnOk result (log.new ≡ with_row clauses.old log.old clause.items hints) }
+    ensures same_clauses { OnErr result (clauses.new ≡ clauses.old) }
+    ensures same_log { OnErr result (log.new ≡ log.old) }
 {
+    let vars = clauses.vars();
+    let len = clauses.len();
     clauses.push(clause.as_slice())?;
     let row = LratRow::Add {
         id: clauses.len() as u64,
         clause: LitList::from_vec(clause),
         hints,
     };
-    log.push(row)?;
+    if let Err(error) = log.push(row) {
+        clauses.cut(vars, len);
+        return Err(error);
+    }
     Ok(())
+}
+
+/// The id of the next clause. The list has room for that clause then.
+fn next_id(clauses: &mut ClauseList) -> Result<u64, AllocError>
+    ensures same { clauses.new ≡ clauses.old }
+    ensures id { IfOk result (λ id. id ≡ length clauses.old.clauses + 1) }
+{
+    let vars = clauses.vars();
+    let len = clauses.len();
+    clauses.push(&[])?;
+    let id = clauses.len() as u64;
+    clauses.cut(vars, len);
+    Ok(id)
 }
 
 impl Search {
@@ -201,6 +246,7 @@ impl Search {
         ensures log { self.new.log ≡ self.old.log }
         ensures levels { self.new.levels ≡ self.old.levels }
         ensures seen { self.new.seen ≡ self.old.seen }
+        ensures left { self.new.left ≡ self.old.left }
     {
         release(&mut self.order, &self.trail, kept);
         self.trail.cut(kept);
@@ -210,8 +256,11 @@ impl Search {
     fn backjump(&mut self, alloc: Global, conflict: usize) -> Result<usize, AllocError>
         requires leveled { Leveled self.old }
         requires some { 0 < length self.old.levels.items }
+        requires left { 0 < self.old.left }
         requires conflict { IsConflict self.old.clauses.clauses self.old.trail.lits conflict }
-        ensures { IfOk result (IsBack self.old self.new) }
+        ensures back { IfOk result (IsBack self.old self.new) }
+        ensures grows { Grows self.old self.new }
+        ensures spends { Spends self.old self.new }
     {
         let _path = self.trail.len();
         let below = self.levels[self.levels.len() - 1];
@@ -229,6 +278,7 @@ impl Search {
             conflict,
         )?;
         add_row(&mut self.clauses, &mut self.log, clause, hints)?;
+        self.left -= 1;
         let target = drop_levels(&mut self.levels, rest);
         self.cut(target);
         Ok(target)
@@ -252,17 +302,35 @@ impl Search {
         zero
     }
 
-    /// Adds the empty clause, from a conflict before the first decision.
-    fn learn_empty(&mut self, alloc: Global, conflict: usize) -> Result<(), AllocError>
+    /// The row that adds the empty clause, from a conflict before the first decision.
+    fn empty_row(&mut self, alloc: Global, conflict: usize) -> Result<LratRow, AllocError>
         requires leveled { Leveled self.old }
         requires none { length self.old.levels.items ≡ 0 }
         requires conflict { IsConflict self.old.clauses.clauses self.old.trail.lits conflict }
-        ensures { OnOk result (IsClosed self.old self.new) }
+        ensures clauses { self.new.clauses ≡ self.old.clauses }
+        ensures log { self.new.log ≡ self.old.log }
+        ensures left { self.new.left ≡ self.old.left }
+        ensures closes { IfOk result (Closes self.old) }
     {
         let hints = refute(alloc, &self.clauses, &self.trail, &mut self.seen, conflict)?;
-        add_row(&mut self.clauses, &mut self.log, Vec::new(alloc), hints)?;
-        Ok(())
+        let id = next_id(&mut self.clauses)?;
+        Ok(LratRow::Add {
+            id,
+            clause: LitList::new(alloc),
+            hints,
+        })
     }
+}
+
+/// What the search came to.
+#[derive(Drop)]
+pub enum Found {
+    /// All clauses are true under this assignment.
+    Sat(Assignment),
+    /// With this row, which adds the empty clause, the log refutes the list.
+    Unsat(LratRow),
+    /// The budget was spent before the last conflict.
+    Spent,
 }
 
 /// What a step of the search came to.
@@ -272,32 +340,25 @@ pub enum Step {
     Decided,
     /// A clause was learned, and the trail has this length now.
     Back(usize),
-    /// All clauses are true under this assignment.
-    Sat(Assignment),
-    /// The empty clause was added.
-    Unsat,
-    /// The budget was spent before this conflict.
-    Spent,
+    /// The search is at its end.
+    Ended(Found),
 }
 
 impl Search {
     /// Learns from a conflict: the empty clause before the first decision, nothing where the budget is spent, else a clause.
-    fn on_conflict(
-        &mut self,
-        alloc: Global,
-        budget: u64,
-        conflict: usize,
-    ) -> Result<Step, AllocError>
+    fn on_conflict(&mut self, alloc: Global, conflict: usize) -> Result<Step, AllocError>
         requires leveled { Leveled self.old }
         requires conflict { IsConflict self.old.clauses.clauses self.old.trail.lits conflict }
-        ensures { IfOk result (Stepped budget self.old self.new) }
+        ensures stepped { IfOk result (Stepped self.old self.new) }
+        ensures grows { Grows self.old self.new }
+        ensures spends { Spends self.old self.new }
     {
         if self.levels.is_empty() {
-            self.learn_empty(alloc, conflict)?;
-            return Ok(Step::Unsat);
+            let row = self.empty_row(alloc, conflict)?;
+            return Ok(Step::Ended(Found::Unsat(row)));
         }
-        if self.log.len() as u64 >= budget {
-            return Ok(Step::Spent);
+        if self.left == 0 {
+            return Ok(Step::Ended(Found::Spent));
         }
         self.backjump(alloc, conflict)?;
         self.order.decay();
@@ -306,21 +367,18 @@ impl Search {
     }
 
     /// Answers unit propagation: learns from a conflict, or decides where there is none.
-    pub fn respond(
-        &mut self,
-        alloc: Global,
-        budget: u64,
-        conflict: Option<u64>,
-    ) -> Result<Step, AllocError>
+    pub fn respond(&mut self, alloc: Global, conflict: Option<u64>) -> Result<Step, AllocError>
         requires leveled { Leveled self.old }
         requires conflict { IfSome conflict (IsConflict self.old.clauses.clauses self.old.trail.lits) }
         requires quiet { IfNone conflict (AreQuiet (has self.old.trail.lits) self.old.clauses.clauses) }
-        ensures { IfOk result (Stepped budget self.old self.new) }
+        ensures stepped { IfOk result (Stepped self.old self.new) }
+        ensures grows { Grows self.old self.new }
+        ensures spends { Spends self.old self.new }
     {
         match conflict {
-            Some(place) => self.on_conflict(alloc, budget, place as usize),
+            Some(place) => self.on_conflict(alloc, place as usize),
             None => match self.advance(alloc)? {
-                Some(assignment) => Ok(Step::Sat(assignment)),
+                Some(assignment) => Ok(Step::Ended(Found::Sat(assignment))),
                 None => Ok(Step::Decided),
             },
         }
@@ -338,6 +396,7 @@ impl Search {
             seen: _,
             order: _,
             restarts: _,
+            left: _,
         } = self;
         log
     }

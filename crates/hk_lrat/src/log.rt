@@ -232,6 +232,27 @@ impl LratRow {
         }
     }
 
+    /// The same row, over memory of its own.
+    fn copy(&self, alloc: Global) -> Result<LratRow, AllocError>
+        ensures { IfOk result (λ row. row ≡ self.now) }
+    {
+        match self {
+            LratRow::Add { id, clause, hints } => {
+                let clause = LitList::from_slice(alloc, clause.as_slice())?;
+                let hints = IdList::from_slice(alloc, hints.as_slice())?;
+                Ok(LratRow::Add {
+                    id: *id,
+                    clause,
+                    hints,
+                })
+            }
+            LratRow::Delete { ids } => {
+                let ids = IdList::from_slice(alloc, ids.as_slice())?;
+                Ok(LratRow::Delete { ids })
+            }
+        }
+    }
+
     /// Whether the row adds the empty clause.
     pub fn is_empty_addition(&self) -> bool
         ensures { result ≡ is_empty_addition self.now }
@@ -275,6 +296,17 @@ impl LratLog {
     {
         self.rows.push(row)?;
         Ok(())
+    }
+
+    /// The same log, over memory of its own.
+    pub fn copy(&self, alloc: Global) -> Result<LratLog, AllocError>
+        ensures { IfOk result (λ log. log ≡ self.now) }
+    {
+        let mut copy = LratLog::new(alloc);
+        for row in self.rows.as_slice() {
+            copy.push(row.copy(alloc)?)?;
+        }
+        Ok(copy)
     }
 
     /// Raises the ids over `from` of all rows.

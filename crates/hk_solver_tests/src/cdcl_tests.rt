@@ -1,9 +1,12 @@
 //! Lists whose answers the format, counting or another solver gives; each answer's evidence is checked.
 
-ghost use Rattle.std.specs.Prelude.{◌≤◌};
+ghost use Rattle.std.specs.Prelude.{◌≡◌, ◌≤◌, length, OnOk, All};
+ghost use Rattle.hk_cnf.specs.Literal.{IsWithin};
+ghost use Rattle.hk_cdcl.specs.Ends.{IfSat};
+ghost use Rattle.hk_cdcl.specs.Solved.{Satisfies};
 
-use hk_cdcl::{FullScan, Propagate, SolveEnd, Trail, solve};
-use hk_cnf::{ClauseList, CnfStop, read_dimacs, satisfies};
+use hk_cdcl::{FullScan, Propagate, SolveEnd, Solver, Trail, Watched, solve};
+use hk_cnf::{ClauseList, CnfStop, Lit, read_dimacs, satisfies};
 use hk_lrat::{Checker, LratLog, refutes};
 use std::alloc::{AllocError, Global};
 use std::test::Fail;
@@ -320,6 +323,147 @@ fn units_are_propagated_in_order(rt: HostRuntime) -> Result<(), Fail> {
     ];
     for (file, expected) in table {
         let found = propagated(rt.alloc(), file)?;
+        assert_eq!(rt; found.as_str(), expected);
+    }
+    Ok(())
+}
+
+/// What unit propagation by watched literals comes to over the list of a clause file, first and again after a cut to this
+/// length.
+fn watched(alloc: Global, file: &str, kept: usize) -> Result<String, Fail> {
+    let Ok(list) = list_of(alloc, file) else {
+        return Ok(String::from_str(alloc, "no clause file")?);
+    };
+    let mut watched = Watched::new(alloc);
+    watched.added(&list)?;
+    let mut trail = Trail::new(alloc, list.vars())?;
+    let first = watched.propagate(&list, &mut trail);
+    let set = trail.len();
+    if set < kept {
+        return Ok(String::from_str(alloc, "too short")?);
+    }
+    trail.cut(kept);
+    watched.cut(kept as u64);
+    let second = watched.propagate(&list, &mut trail);
+    let left = trail.len();
+    Ok(format!(in alloc; "{first:?} {set}, {second:?} {left}")?)
+}
+
+#[test]
+fn watched_literals_propagate_as_full_scans_do(rt: HostRuntime) -> Result<(), Fail> {
+    let table = [
+        ("p cnf 3 3\n1 0\n-1 2 0\n-2 -3 0\n", 0, "None 3, None 3"),
+        ("p cnf 3 3\n-2 -3 0\n-1 2 0\n1 0\n", 1, "None 3, None 3"),
+        (
+            "p cnf 4 4\n1 0\n-1 -2 3 0\n2 0\n-3 -1 4 0\n",
+            2,
+            "None 4, None 4",
+        ),
+        (
+            "p cnf 2 3\n1 0\n-1 2 2 0\n-1 -2 0\n",
+            0,
+            "Some(2) 2, Some(2) 2",
+        ),
+        ("p cnf 2 1\n1 2 0\n", 0, "None 0, None 0"),
+    ];
+    for (file, kept, expected) in table {
+        let found = watched(rt.alloc(), file, kept)?;
+        assert_eq!(rt; found.as_str(), expected);
+    }
+    Ok(())
+}
+
+/// A clause more at the end of the list, and of that of the solver.
+fn grow_by(solver: &mut Solver, list: &mut ClauseList, clause: &[Lit]) -> Result<(), AllocError>
+    requires held { solver.old.list ≡ list.old }
+    requires within { All (IsWithin list.old.vars) clause.now }
+    ensures held { OnOk result (solver.new.list ≡ list.new) }
+    ensures vars { OnOk result (list.new.vars ≡ list.old.vars) }
+{
+    list.push(clause)?;
+    solver.grow(list)
+}
+
+/// The clauses of another list from a place up to another at the end of both.
+fn grow_to(
+    solver: &mut Solver,
+    list: &mut ClauseList,
+    whole: &ClauseList,
+    from: usize,
+    to: usize,
+) -> Result<(), AllocError>
+    requires held { solver.old.list ≡ list.old }
+    requires vars { list.old.vars ≡ whole.now.vars }
+    requires inside { to ≤ length whole.now.clauses }
+    ensures held { OnOk result (solver.new.list ≡ list.new) }
+    ensures vars { OnOk result (list.new.vars ≡ whole.now.vars) }
+{
+    for i in from..to {
+        grow_by(solver, list, whole.clause(i))?;
+    }
+    Ok(())
+}
+
+/// An answer in words, with its evidence checked over the list.
+fn checked(alloc: Global, list: &ClauseList, end: &SolveEnd) -> Result<String, Fail>
+    requires { IfSat (Satisfies list.now) end.now }
+{
+    match end {
+        SolveEnd::Sat(assignment) if satisfies(list, assignment) => Ok(String::from_str(
+            alloc, "sat",
+        )?),
+        SolveEnd::Sat(_) => Ok(String::from_str(alloc, "not satisfied")?),
+        SolveEnd::Unsat(log) => match refutes(alloc, list, log) {
+            Ok(()) => Ok(String::from_str(alloc, "unsat")?),
+            Err(_) => Ok(String::from_str(alloc, "not refuted")?),
+        },
+        SolveEnd::Spent(log) => match accepted_rows(alloc, list, log)? {
+            Some(rows) => Ok(format!(in alloc; "spent {rows}")?),
+            None => Ok(String::from_str(alloc, "not accepted")?),
+        },
+    }
+}
+
+/// What a solver comes to over the first clauses of a clause file, then over some more with the budget, and then over all.
+fn rounds(
+    alloc: Global,
+    file: &str,
+    first: usize,
+    second: usize,
+    budget: u64,
+) -> Result<String, Fail>
+    requires { 1 ≤ budget }
+{
+    let Ok(whole) = list_of(alloc, file) else {
+        return Ok(String::from_str(alloc, "no clause file")?);
+    };
+    if whole.len() < second || second < first {
+        return Ok(String::from_str(alloc, "too short")?);
+    }
+    let mut list = ClauseList::new(alloc, whole.vars());
+    let mut solver = Solver::new(alloc, &list)?;
+    grow_to(&mut solver, &mut list, &whole, 0, first)?;
+    let one = solver.solve(alloc, budget)?;
+    let mut text = checked(alloc, &list, &one)?;
+    grow_to(&mut solver, &mut list, &whole, first, second)?;
+    let two = solver.solve(alloc, budget)?;
+    text.push_str(checked(alloc, &list, &two)?.as_str())?;
+    grow_to(&mut solver, &mut list, &whole, second, whole.len())?;
+    let three = solver.finish(alloc, 1_000_000)?;
+    text.push_str(checked(alloc, &list, &three)?.as_str())?;
+    Ok(text)
+}
+
+#[test]
+fn a_solver_goes_on_as_its_list_grows(rt: HostRuntime) -> Result<(), Fail> {
+    let table = [
+        (FOUR_IN_THREE, 4, 10, 1, "satsatunsat"),
+        (SIX_IN_FIVE, 81, 81, 5, "spent 5spent 10unsat"),
+        ("p cnf 1 2\n1 0\n-1 0\n", 1, 2, 1, "satunsatunsat"),
+    ];
+    for (file, first, second, budget, expected) in table {
+        assert!(rt; 1 <= budget);
+        let found = rounds(rt.alloc(), file, first, second, budget)?;
         assert_eq!(rt; found.as_str(), expected);
     }
     Ok(())

@@ -1,10 +1,9 @@
-use Rattle.std.proofs.Common.{[], get_or, sym, subst, arith}
+use Rattle.std.proofs.Common.{[], get_or, sym, subst}
 use Rattle.std.specs.List.{All}
 use Rattle.hk_cnf.specs.Literal.{place_of}
 use Rattle.hk_cdcl.specs.Analysis.{Marks, IsLowestOf, HasVariable, AreSeen}
-use Rattle.hk_cdcl.proofs.Resolving.{closed-none}
 use Rattle.hk_cdcl.proofs.Tracing.{conflict-set, lowest-conflict, traced}
-use Rattle.hk_cdcl.proofs.Tracking.{tracked-none, reasons-none}
+use Rattle.hk_cdcl.proofs.Tracking.{tracked-none}
 use Rattle.hk_cdcl.proofs.analyze.analyze.Goals as goal
 
 pub lowest_of-lowest-requires-clause-set : goal.lowest_of-lowest-requires-clause-set
@@ -22,9 +21,9 @@ first_uip-requires-clause-lowest c =
 
 pub returns-clause-traced : goal.returns-clause-traced
 returns-clause-traced c =
-    traced c.args.clauses.now.clauses c.args.trail.now c.mark_all.new.seen c.first_uip.new.seen c.first_uip.new.seen 0 c.args.below c.in_ok-uip.uip c.args.conflict (omega arith) c.requires.inside
+    traced c.args.clauses.now.clauses c.args.trail.now c.mark_all.new.seen c.first_uip.new.seen c.args.below c.in_ok-uip.uip c.args.conflict
     (subst (AreSeen c.mark_all.new.seen) c.clause-clause.ensures.same c.in_ok-mark_all.ensures.marks.marked)
-    c.in_ok-uip.ensures.lowest c.in_ok-uip.ensures.closed (closed-none c.args.clauses.now.clauses c.args.trail.now c.first_uip.new.seen 0) (reasons-none c.args.clauses.now.clauses c.args.trail.now) c.requires.level
+    c.in_ok-uip.ensures.lowest c.in_ok-uip.ensures.closed c.requires.level
 
 pub returns-clause-lower : goal.returns-clause-lower
 returns-clause-lower c =

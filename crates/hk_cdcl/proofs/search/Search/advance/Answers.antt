@@ -5,8 +5,8 @@ use Rattle.hk_cdcl.specs.Solved.{Satisfies}
 use Rattle.hk_cdcl.proofs.Satisfying.{quiet-satisfies}
 use Rattle.hk_cdcl.proofs.search.Search.advance.Goals as goal
 
-pub returns-in_ok-values-in-None : goal.returns-in_ok-values-in-None
-returns-in_ok-values-in-None c =
+pub returns-in_ok-values-in-None-clause-advanced : goal.returns-in_ok-values-in-None-clause-advanced
+returns-in_ok-values-in-None-clause-advanced c =
     let t : AreTruths c.args.self.now.trail.lits c.args.self.now.trail.vars c.in_ok-values-in-None.values.items = c.in_ok-values-in-None.ensures in
     let s : AreSet c.args.self.now.trail.lits c.args.self.now.trail.vars = c.in-None.ensures in
     subst (Satisfies c.args.self.now.clauses) (sym c.new.ensures) (record {

@@ -4,8 +4,8 @@ use Rattle.hk_cdcl.specs.Searching.{IsLeveled}
 use Rattle.hk_cdcl.proofs.Leveling.{leveled-decision}
 use Rattle.hk_cdcl.proofs.search.Search.decide.Goals as goal
 
-pub returns : goal.returns
-returns c =
+pub returns-clause-decided : goal.returns-clause-decided
+returns-clause-decided c =
     let levels : List ℕ = c.args.self.now.levels.items in
     let grown : c.push.new.self.items ≡ levels ++ length c.args.self.now.trail.lits ∷ [] = c.in_ok-push.ensures.items ∙ ap (λ n. levels ++ n ∷ []) c.len-len.ensures.value in
     let step : c.push-2.new.self ≡ with_step c.args.self.now.trail c.literal_of-lit.result 0 = c.push-2.ensures in
@@ -17,7 +17,8 @@ returns c =
         c.requires.leveled.1 ∙ sym (ap (λ (p : Path). p.vars) step),
       );
       clauses = refl;
-      log = refl;
+      left = refl;
+      vars = ap (λ (p : Path). p.vars) step;
       literal = c.literal_of-lit.result;
       lits = ap (λ (p : Path). p.lits) step;
       count = c.len-count.ensures.path.count;
