@@ -1,4 +1,6 @@
 //! What is shown of lines and rows on a sink in memory.
+ghost use Rattle.std.specs.Prelude.{◌≡◌, ◌+◌, length, IfOk, OnOk};
+
 use crate::{Part, put_line, put_memory};
 use hk_io::{MemSink, PutList, SinkFault};
 use ir_ast::{GlobalItem, GlobalTable, Init, IrType, Name};
@@ -39,28 +41,46 @@ fn global(alloc: Global, name: &[u8], constant: bool) -> Result<GlobalItem, Allo
     })
 }
 
-// A name, whether it is a constant's, the length in bytes, and the byte at one place in them; the others are zero.
-const OBJECTS: [(&[u8], bool, usize, (usize, u8)); 6] = [
-    (b"fd", false, 18, (17, 255)),
-    (b"limit", true, 4, (0, 9)),
-    (b"a b", false, 1, (0, 10)),
-    (b"unused", false, 300, (0, 0)),
-    (b"", false, 40, (3, 1)),
-    (b"procs.1", false, 16, (0, 171)),
+// The length of each object in bytes, and the byte at one place in it; the others are zero.
+const OBJECTS: [(usize, (usize, u8)); 6] = [
+    (18, (17, 255)),
+    (4, (0, 9)),
+    (1, (0, 10)),
+    (300, (0, 0)),
+    (40, (3, 1)),
+    (16, (0, 171)),
 ];
 
-fn table(alloc: Global) -> Result<GlobalTable, Fail> {
+// One more global behind the others.
+fn add_global(
+    alloc: Global,
+    globals: &mut GlobalTable,
+    name: &[u8],
+    constant: bool,
+) -> Result<(), Fail>
+    ensures { OnOk result (length globals.new ≡ length globals.old + 1) }
+{
+    let key = Name::copy_of(alloc, name)?;
+    globals.add(key, global(alloc, name, constant)?)?;
+    Ok(())
+}
+
+fn table(alloc: Global) -> Result<GlobalTable, Fail>
+    ensures { IfOk result (λ t. length t ≡ 6) }
+{
     let mut globals = GlobalTable::new(alloc);
-    for (name, constant, _, _) in OBJECTS {
-        let key = Name::copy_of(alloc, name)?;
-        globals.add(key, global(alloc, name, constant)?)?;
-    }
+    add_global(alloc, &mut globals, b"fd", false)?;
+    add_global(alloc, &mut globals, b"limit", true)?;
+    add_global(alloc, &mut globals, b"a b", false)?;
+    add_global(alloc, &mut globals, b"unused", false)?;
+    add_global(alloc, &mut globals, b"", false)?;
+    add_global(alloc, &mut globals, b"procs.1", false)?;
     Ok(globals)
 }
 
 fn memory(alloc: Global) -> Result<KMemory, Fail> {
     let mut objects = Vec::new(alloc);
-    for (_, _, length, (place, byte)) in OBJECTS {
+    for (length, (place, byte)) in OBJECTS {
         let mut bytes = vec![in alloc; 0; length]?;
         bytes[place] = byte;
         objects.push(ObjectBytes::new(bytes))?;
