@@ -1,0 +1,4 @@
+pub mod Leaves
+pub mod Void
+pub mod Asked
+pub mod Exits

@@ -1,0 +1,4 @@
+pub mod Told
+pub mod Answers
+pub mod Asking
+pub mod Behind

@@ -1,0 +1,14 @@
+//! What the expressions of a specification stand for: the recursion over raw expressions.
+//!
+//! Raw expressions come in, with the scope of their line, and expressions of `spec_tree` go out, or the tests of their faults. Stands on
+//! scopes, whose definitions say what an expression is taken as.
+#![tactic(auto)]
+
+mod asking;
+mod kinds;
+mod leaf;
+mod paths;
+mod widths;
+
+pub use kinds::OwnKind;
+pub use widths::{first_of, own};
