@@ -4,7 +4,7 @@ use Rattle.std.specs.Prelude.{nat_lt, if◌then◌else◌}
 use Rattle.spec_ast.specs.declared.kind.BinKind.{BinKind}
 use Rattle.spec_ast.specs.Raw.{Tree}
 use Rattle.spec_tree.specs.Plain as tree
-use Rattle.spec_tree.specs.Sorted.{Class, equality, ordering}
+use Rattle.spec_tree.specs.Sorted.{Class, equality, ordering, class_of}
 use Rattle.spec_names.specs.Kernel.{Name}
 use Rattle.spec_scope.specs.declared.meaning.Kind.{Kind}
 use Rattle.spec_scope.specs.declared.meaning.Kind.TheVariants.{Truth, Number}
@@ -14,7 +14,7 @@ use Rattle.spec_scope.specs.Taking.{chain, one, pair, asked, number_of_kind, tak
 use Rattle.spec_take.specs.declared.kinds.OwnKind.{OwnKind}
 use Rattle.spec_take.specs.declared.kinds.OwnKind.TheVariants.{Absent, Known, TooWide}
 use Rattle.spec_take.specs.Told.{told, IsVoid, AreVoid}
-use Rattle.spec_take.specs.Asking.{known, known_number, index_told, AsksBoth, AsksIndex}
+use Rattle.spec_take.specs.Asking.{known, known_number, index_told, AsksClass, AsksBoth, AsksIndex}
 use Rattle.spec_take.proofs.Void.{two_none}
 
 -- ---- kinds as they are told
@@ -39,20 +39,24 @@ told_absent (Some (Number w)) h = absent_if w (nat_lt w 4294967296) h
 
 -- ---- both operands
 
-pub asks_is : (s : Scope) (class : Class) (kind : Kind) (a c : Tree) (r : Option Kind) → r ≡ asked class kind (first (own s a) (own s c)) → AsksBoth s class kind a c r
+pub asks_is : (s : Scope) (class : Class) (kind : Kind) (a c : Tree) (r : Option Kind) → r ≡ asked class kind (first (own s a) (own s c)) → AsksClass s class kind a c r
 asks_is s class kind a c None h = λ b op. ap (λ o. chain o (λ j. one (λ p. tree.binary op p.0 p.1) (pair (take s b j a) (take s b j c)))) (sym h)
 asks_is s class kind a c (Some j) h = sym h
 
-pub equality_asks : (s : Scope) (a c : Tree) (k : OwnKind) (r : Option Kind) → k ≡ told (first (own s a) (own s c)) → AreVoid s a c k → r ≡ known k → AsksBoth s equality Truth a c r
+pub equality_asks : (s : Scope) (a c : Tree) (k : OwnKind) (r : Option Kind) → k ≡ told (first (own s a) (own s c)) → AreVoid s a c k → r ≡ known k → AsksClass s equality Truth a c r
 equality_asks s a c Absent r is void rk = asks_is s equality Truth a c r (rk ∙ sym (told_absent (first (own s a) (own s c)) (sym is)))
 equality_asks s a c (Known k) r is void rk = asks_is s equality Truth a c r (rk ∙ sym (told_known (first (own s a) (own s c)) k (sym is)))
-equality_asks s a c TooWide r is void rk = subst (AsksBoth s equality Truth a c) (sym rk) (λ b op. two_none s b op a c (asked equality Truth (first (own s a) (own s c))) (void.void refl b))
+equality_asks s a c TooWide r is void rk = subst (AsksClass s equality Truth a c) (sym rk) (λ b op. two_none s b op a c (asked equality Truth (first (own s a) (own s c))) (void.void refl b))
 
-pub ordering_asks : (s : Scope) (a c : Tree) (k : OwnKind) (r : Option Kind) → k ≡ told (first (own s a) (own s c)) → AreVoid s a c k → r ≡ known_number k → AsksBoth s ordering Truth a c r
+pub ordering_asks : (s : Scope) (a c : Tree) (k : OwnKind) (r : Option Kind) → k ≡ told (first (own s a) (own s c)) → AreVoid s a c k → r ≡ known_number k → AsksClass s ordering Truth a c r
 ordering_asks s a c Absent r is void rk = asks_is s ordering Truth a c r (rk ∙ ap number_of_kind (sym (told_absent (first (own s a) (own s c)) (sym is))))
 ordering_asks s a c (Known Truth) r is void rk = asks_is s ordering Truth a c r (rk ∙ ap number_of_kind (sym (told_known (first (own s a) (own s c)) Truth (sym is))))
 ordering_asks s a c (Known (Number w)) r is void rk = asks_is s ordering Truth a c r (rk ∙ ap number_of_kind (sym (told_known (first (own s a) (own s c)) (Number w) (sym is))))
-ordering_asks s a c TooWide r is void rk = subst (AsksBoth s ordering Truth a c) (sym rk) (λ b op. two_none s b op a c (asked ordering Truth (first (own s a) (own s c))) (void.void refl b))
+ordering_asks s a c TooWide r is void rk = subst (AsksClass s ordering Truth a c) (sym rk) (λ b op. two_none s b op a c (asked ordering Truth (first (own s a) (own s c))) (void.void refl b))
+
+pub both_asked : (s : Scope) (class : Class) (op : BinKind) (kind : Kind) (a c : Tree) (r : Option Kind) → class ≡ class_of op → AsksClass s class kind a c r → AsksBoth s op kind a c r
+both_asked s class op kind a c None is h = λ b. ap (λ k. chain (asked k kind (first (own s a) (own s c))) (λ j. one (λ p. tree.binary op p.0 p.1) (pair (take s b j a) (take s b j c)))) (sym is) ∙ h b op
+both_asked s class op kind a c (Some j) is h = ap (λ k. asked k kind (first (own s a) (own s c))) (sym is) ∙ h
 
 -- ---- an index
 

@@ -2,3 +2,4 @@ pub mod Leaves
 pub mod Void
 pub mod Asked
 pub mod Exits
+pub mod BehindLaws

@@ -1,9 +1,9 @@
 -- What a place asks of the expressions there, as far as the code tells it.
 use Rattle.std.specs.Prelude.{◌≡◌, Option, Some, None, List}
 use Rattle.spec_ast.specs.declared.kind.BinKind.{BinKind}
-use Rattle.spec_ast.specs.Raw.{Tree}
+use Rattle.spec_ast.specs.Raw.{Tree, binary}
 use Rattle.spec_tree.specs.Plain as tree
-use Rattle.spec_tree.specs.Sorted.{Class}
+use Rattle.spec_tree.specs.Sorted.{Class, class_of}
 use Rattle.spec_names.specs.Kernel.{Name}
 use Rattle.spec_scope.specs.declared.meaning.Kind.{Kind}
 use Rattle.spec_scope.specs.declared.meaning.Kind.TheVariants.{Truth, Number}
@@ -27,12 +27,17 @@ index_told Absent = Some (Number 64)
 index_told (Known k) = Some k
 index_told TooWide = None
 
--- the kind that both operands are asked for; none where the whole stands for nothing
-abbrev pub AsksBoth : Scope → Class → Kind → Tree → Tree → Option Kind → Type 0
-AsksBoth s class kind a c (Some j) = asked class kind (first (own s a) (own s c)) ≡ Some j
-AsksBoth s class kind a c None =
+-- the kind that both operands of a class are asked for; none where no operator of them stands for anything
+abbrev pub AsksClass : Scope → Class → Kind → Tree → Tree → Option Kind → Type 0
+AsksClass s class kind a c (Some j) = asked class kind (first (own s a) (own s c)) ≡ Some j
+AsksClass s class kind a c None =
     (b : List Name) (op : BinKind)
     → chain (asked class kind (first (own s a) (own s c))) (λ j. one (λ p. tree.binary op p.0 p.1) (pair (take s b j a) (take s b j c))) ≡ None
+
+-- the kind that both operands are asked for; none where the whole stands for nothing
+abbrev pub AsksBoth : Scope → BinKind → Kind → Tree → Tree → Option Kind → Type 0
+AsksBoth s op kind a c (Some j) = asked (class_of op) kind (first (own s a) (own s c)) ≡ Some j
+AsksBoth s op kind a c None = (b : List Name) → take s b kind (binary op a c) ≡ None
 
 -- the kind that an index of a path is asked for; none where it stands for nothing
 abbrev pub AsksIndex : Scope → Tree → Option Kind → Type 0

@@ -5,19 +5,28 @@ use Rattle.spec_tree.specs.Plain as tree
 use Rattle.spec_tree.specs.Plain.{Key}
 use Rattle.spec_tree.specs.View.{OneStep, trees_of, steps_of}
 use Rattle.spec_names.specs.Kernel.{Name, Shape, Elements, elements_of, part_of, bytes_of}
+use Rattle.spec_scope.specs.declared.meaning.Kind.{Kind}
 use Rattle.spec_scope.specs.declared.meaning.Kind.TheVariants.{Truth, Number}
 use Rattle.spec_scope.specs.Scope.{Scope, meaning, is_among, own}
 use Rattle.spec_scope.specs.Takes.{index_kind}
-use Rattle.spec_scope.specs.Taking.{chain, one, Index, variable_meant, index_at, Led, first_key, no_keys, take}
+use Rattle.spec_scope.specs.Taking.{chain, one, Index, variable_meant, index_at, given_at, ReadOf, Led, first_key, no_keys, sizes_of, take}
 
 abbrev pub truths_behind : Scope → List Name → List tree.Tree → Trees → Option tree.Trees
 truths_behind s b ys no_trees = Some (trees_of ys)
 truths_behind s b ys (tree_and e es) = chain (take s b Truth e) (λ y. truths_behind s b (ys ++ y ∷ []) es)
 
+-- a width, and the keys behind it
+abbrev pub width_then : ℕ → List Key → ℕ × List Key
+width_then width others = (width, others)
+
 abbrev pub keys_behind : Scope → List Name → List Key → List tree.Tree → Trees → Option tree.Trees
 keys_behind s b keys ys no_trees = no_keys keys (trees_of ys)
 keys_behind s b keys ys (tree_and e es) =
     chain (first_key keys) (λ k. chain (take s b (Number k.0.width) e) (λ y. keys_behind s b k.1 (ys ++ y ∷ []) es))
+
+-- a read of a field without keys
+abbrev pub scalar_of : Kind → ReadOf → Option tree.Tree
+scalar_of kind r = chain (no_keys r.sort.keys r) (λ q. given_at kind (Number r.sort.width) (tree.entry r.which r.place tree.no_trees))
 
 -- ---- paths
 
@@ -49,4 +58,4 @@ sizes_behind s b sizes (x ∷ xs) =
 
 -- the sizes, and what is taken under the variables
 abbrev pub quantified : Scope → List Name → List Name → Tree → Option (List ℕ × tree.Tree)
-quantified s b xs a = chain (sizes_behind s b [] xs) (λ sizes. one (λ y. (sizes, y)) (take s (b ++ xs) Truth a))
+quantified s b xs a = chain (sizes_of s b xs) (λ sizes. one (λ y. (sizes, y)) (take s (b ++ xs) Truth a))

@@ -8,12 +8,13 @@ ghost use Rattle.spec_scope.specs.Taking as definition;
 ghost use Rattle.spec_scope.specs.View.{view_scope};
 ghost use Rattle.spec_take.specs.Answers.{Gives};
 ghost use Rattle.spec_take.specs.Asking as plain;
-ghost use Rattle.spec_take.specs.Asking.{AsksBoth, AsksIndex};
+ghost use Rattle.spec_take.specs.Asking.{AsksClass, AsksBoth, AsksIndex};
 
 use crate::kinds::OwnKind;
 use crate::widths::{first_of, own};
-use spec_ast::{RawExpr, UnKind};
+use spec_ast::{BinKind, RawExpr, UnKind};
 use spec_scope::leaves::same_kind;
+use spec_scope::steps::class_of;
 use spec_scope::{Kind, OpClass, Scope, TakeStop};
 use spec_tree::Expr;
 
@@ -75,14 +76,14 @@ fn known_number(kind: OwnKind) -> Option<Kind>
 
 /// The kind that a binary operator of a class asks both operands for.
 #[tactic(auto, using(crate::proofs::Asked::asks_is, crate::proofs::Asked::equality_asks, crate::proofs::Asked::ordering_asks))]
-pub(crate) fn asked(
+fn asked_class(
     scope: &Scope<'_>,
     class: OpClass,
     kind: Kind,
     a: &RawExpr,
     c: &RawExpr,
 ) -> Option<Kind>
-    ensures { AsksBoth (view_scope scope.now) (view_class class) kind (view_raw a.now) (view_raw c.now) result }
+    ensures { AsksClass (view_scope scope.now) (view_class class) kind (view_raw a.now) (view_raw c.now) result }
 {
     match class {
         OpClass::Arithmetic => number_at(kind),
@@ -99,6 +100,20 @@ pub(crate) fn asked(
             Kind::Number(_) => None,
         },
     }
+}
+
+/// The kind that a binary operator asks both operands for.
+#[tactic(auto, using(crate::proofs::Asked::both_asked))]
+pub(crate) fn asked(
+    scope: &Scope<'_>,
+    op: BinKind,
+    kind: Kind,
+    a: &RawExpr,
+    c: &RawExpr,
+) -> Option<Kind>
+    ensures { AsksBoth (view_scope scope.now) op kind (view_raw a.now) (view_raw c.now) result }
+{
+    asked_class(scope, class_of(op), kind, a, c)
 }
 
 /// The kind that an index is asked for, by its own one.

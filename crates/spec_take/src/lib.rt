@@ -8,7 +8,9 @@ mod asking;
 mod kinds;
 mod leaf;
 mod paths;
+mod taken;
 mod widths;
 
 pub use kinds::OwnKind;
+pub use taken::take;
 pub use widths::{first_of, own};
