@@ -3,3 +3,4 @@ pub mod Void
 pub mod Asked
 pub mod Exits
 pub mod BehindLaws
+pub mod Tuples

@@ -2,3 +2,4 @@ pub mod Told
 pub mod Answers
 pub mod Asking
 pub mod Behind
+pub mod Found

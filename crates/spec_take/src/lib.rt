@@ -5,12 +5,16 @@
 #![tactic(auto)]
 
 mod asking;
+mod faults;
+mod found;
 mod kinds;
 mod leaf;
 mod paths;
 mod taken;
 mod widths;
 
+pub use faults::{faults_of, tuples_with};
+pub use found::Findings;
 pub use kinds::OwnKind;
 pub use taken::take;
 pub use widths::{first_of, own};
