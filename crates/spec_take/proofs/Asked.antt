@@ -1,11 +1,10 @@
 -- What a place asks of the expressions there.
-use Rattle.std.proofs.Common.{◌≡◌, ℕ, Bool, true, false, Option, Some, None, List, refl, sym, ◌∙◌, ap, subst}
+use Rattle.std.proofs.Common.{◌≡◌, ℕ, Bool, true, false, Option, Some, None, refl, sym, ◌∙◌, ap, subst}
 use Rattle.std.specs.Prelude.{nat_lt, if◌then◌else◌}
 use Rattle.spec_ast.specs.declared.kind.BinKind.{BinKind}
 use Rattle.spec_ast.specs.Raw.{Tree}
 use Rattle.spec_tree.specs.Plain as tree
 use Rattle.spec_tree.specs.Sorted.{Class, equality, ordering, class_of}
-use Rattle.spec_names.specs.Kernel.{Name}
 use Rattle.spec_scope.specs.declared.meaning.Kind.{Kind}
 use Rattle.spec_scope.specs.declared.meaning.Kind.TheVariants.{Truth, Number}
 use Rattle.spec_scope.specs.Scope.{Scope, first, own}

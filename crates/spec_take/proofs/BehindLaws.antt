@@ -1,7 +1,7 @@
 -- What is taken from the front to the end is what is taken.
-use Rattle.std.proofs.Common.{◌≡◌, ℕ, zero, suc, ◌+◌, Bool, true, false, Option, Some, None, List, [], ◌∷◌, ◌++◌, append_assoc, append-nil, refl, sym, ◌∙◌, ap, arith, rules}
+use Rattle.std.proofs.Common.{◌≡◌, ℕ, ◌+◌, Bool, true, false, Option, Some, None, List, [], ◌∷◌, ◌++◌, append_assoc, append-nil, refl, sym, ◌∙◌, ap, arith, rules}
 use Rattle.std.specs.Prelude.{option_map, if◌then◌else◌}
-use Rattle.spec_ast.specs.Raw.{Tree, Trees, no_trees, tree_and, Steps, no_steps, step_and, element, member}
+use Rattle.spec_ast.specs.Raw.{Trees, no_trees, tree_and, Steps, no_steps, step_and, element, member}
 use Rattle.spec_ast.specs.View.{view_exprs, view_expr_list, view_steps, view_step_list}
 use Rattle.spec_ast.specs.declared.raw.RawExprs.{RawExprs, out-RawExprs}
 use Rattle.spec_ast.specs.declared.raw.RawSteps.{RawSteps, out-RawSteps}
@@ -15,7 +15,7 @@ use Rattle.spec_scope.specs.Scope.{Scope, meaning, is_among, own}
 use Rattle.spec_scope.specs.Steps.{ahead}
 use Rattle.spec_scope.specs.Takes.{index_kind}
 use Rattle.spec_scope.specs.Taking.{chain, one, Index, variable_meant, index_at, Led, led_here, led_by, led_in, first_key, no_keys, sizes_of, take, take_truths, take_keys, lead}
-use Rattle.spec_take.specs.Behind.{truths_behind, keys_behind, step_of, element_taken, member_taken, lead_behind, sizes_behind}
+use Rattle.spec_take.specs.Behind.{truths_behind, keys_behind, step_of, lead_behind, sizes_behind}
 
 abbrev Bound : Type 0
 Bound = List Name

@@ -1,16 +1,14 @@
 -- Steps to an integer, one at a time.
-use Rattle.std.proofs.Common.{◌≡◌, ℕ, suc, ◌≤◌, ◌<◌, ◌+◌, ◌*◌, ◌/◌, List, [], ◌∷◌, length, drop, get_or, drop-cons, add-one, Bool, true, false, ◌||◌, Option, Some, None, refl, sym, ◌∙◌, ap, subst, arith}
+use Rattle.std.proofs.Common.{◌≡◌, ℕ, suc, ◌≤◌, ◌<◌, ◌+◌, ◌/◌, List, ◌∷◌, length, drop, get_or, drop-cons, add-one, Bool, true, false, Option, Some, None, refl, sym, ◌∙◌, ap, subst, arith}
 use Rattle.std.specs.Prelude.{IfSome, option_and_then, if◌then◌else◌, nat_eq}
-use Rattle.std.proofs.lemmas.Bool.{cases_Bool, eqb-true}
 use Rattle.ir_type.specs.Whole.{is_memory_width}
 use Rattle.ir_whole.specs.Questions.{width_of}
-use Rattle.ir_measure.specs.declared.shapes.Shapes.{Shapes}
 use Rattle.ir_measure.specs.Shaped.{type_in}
 use Rattle.spec_ast.specs.Raw.{Step, element, member, Steps, step_and}
 use Rattle.spec_ast.specs.View.{view_step, view_steps}
 use Rattle.spec_ast.specs.declared.raw.RawStep.{RawStep}
 use Rattle.spec_names.specs.Kernel.{Shape, Elements, Part, elements_of, part_of, bytes_of}
-use Rattle.spec_kernel.specs.Seen.{Seen, shape_in, shape_at}
+use Rattle.spec_kernel.specs.Seen.{Seen, shape_in}
 use Rattle.spec_kernel.specs.Steps.{bytes_at}
 use Rattle.spec_kernel.proofs.ShapeLaws.{bytes_shape}
 use Rattle.spec_scope.specs.Scope.{leaf_at}

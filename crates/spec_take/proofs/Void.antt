@@ -1,14 +1,13 @@
 -- The kinds that expressions have of their own, as they are told; what is too wide stands for nothing.
-use Rattle.std.proofs.Common.{◌≡◌, ℕ, ◌+◌, ◌-◌, ◌<◌, ◌≤◌, ◌^◌, Bool, true, false, ◌&&◌, Option, Some, None, List, refl, sym, ◌∙◌, ap, subst, arith}
-use Rattle.std.specs.Prelude.{nat_lt, nat_le, if◌then◌else◌}
-use Rattle.std.proofs.lemmas.Bool.{cases_Bool}
+use Rattle.std.proofs.Common.{◌≡◌, ℕ, ◌+◌, ◌-◌, ◌^◌, Bool, true, false, ◌&&◌, Option, Some, None, List, refl, sym, ◌∙◌, ap, subst, arith}
+use Rattle.std.specs.Prelude.{nat_lt, if◌then◌else◌}
 use Rattle.spec_ast.specs.declared.kind.UnKind.{UnKind}
 use Rattle.spec_ast.specs.declared.kind.BinKind.{BinKind}
 use Rattle.spec_ast.specs.declared.raw.RawResize.{RawResize}
 use Rattle.spec_ast.specs.declared.raw.RawResize.TheVariants.{ZeroExt, SignExt, Extract}
 use Rattle.spec_ast.specs.Raw.{Tree, unary, binary, choose, resize, sized}
 use Rattle.spec_tree.specs.Plain as tree
-use Rattle.spec_tree.specs.Sorted.{Class, arithmetic, equality, ordering, logic, class_of, resized_width}
+use Rattle.spec_tree.specs.Sorted.{arithmetic, equality, ordering, logic, class_of, resized_width}
 use Rattle.spec_names.specs.Kernel.{Name}
 use Rattle.spec_scope.specs.Scope.{Scope, is_width, first, own, class_kind, resize_kind, resized_kind}
 use Rattle.spec_scope.specs.Takes.{fits_resize, is_sized}
@@ -137,7 +136,7 @@ pub void_sized : (s : Scope) (n w : ℕ) (r : OwnKind) → r ≡ told (Some (Num
 void_sized s n w r h =
     record {
       void = λ is b kind.
-      ap (λ c. if c then given_at kind (Number w) (tree.constant w n) else None) (not_sized n w (told_wide w (nat_lt w 4294967296) refl (sym h ∙ is)));
+          ap (λ c. if c then given_at kind (Number w) (tree.constant w n) else None) (not_sized n w (told_wide w (nat_lt w 4294967296) refl (sym h ∙ is)));
     }
 
 -- ---- changes of width
@@ -168,7 +167,7 @@ pub void_resize : (s : Scope) (op : RawResize) (a : Tree) (r result : OwnKind) �
 void_resize s op a r result has h is =
     record {
       void = λ wide b kind.
-      void_resized s op a (own s a) (subst (IsVoid s a) has h) (resized_law op (own s a) ∙ ap (resized op) (sym has) ∙ sym is ∙ wide) b kind;
+          void_resized s op a (own s a) (subst (IsVoid s a) has h) (resized_law op (own s a) ∙ ap (resized op) (sym has) ∙ sym is ∙ wide) b kind;
     }
 
 -- ---- classes

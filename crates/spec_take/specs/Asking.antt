@@ -6,7 +6,7 @@ use Rattle.spec_tree.specs.Plain as tree
 use Rattle.spec_tree.specs.Sorted.{Class, class_of}
 use Rattle.spec_names.specs.Kernel.{Name}
 use Rattle.spec_scope.specs.declared.meaning.Kind.{Kind}
-use Rattle.spec_scope.specs.declared.meaning.Kind.TheVariants.{Truth, Number}
+use Rattle.spec_scope.specs.declared.meaning.Kind.TheVariants.{Number}
 use Rattle.spec_scope.specs.Scope.{Scope, first, own}
 use Rattle.spec_scope.specs.Takes.{index_kind}
 use Rattle.spec_scope.specs.Taking.{chain, one, pair, asked, take}

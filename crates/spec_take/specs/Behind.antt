@@ -9,7 +9,7 @@ use Rattle.spec_scope.specs.declared.meaning.Kind.{Kind}
 use Rattle.spec_scope.specs.declared.meaning.Kind.TheVariants.{Truth, Number}
 use Rattle.spec_scope.specs.Scope.{Scope, meaning, is_among, own}
 use Rattle.spec_scope.specs.Takes.{index_kind}
-use Rattle.spec_scope.specs.Taking.{chain, one, Index, variable_meant, index_at, given_at, ReadOf, Led, first_key, no_keys, sizes_of, take}
+use Rattle.spec_scope.specs.Taking.{chain, one, variable_meant, index_at, given_at, ReadOf, Led, first_key, no_keys, sizes_of, take}
 
 abbrev pub truths_behind : Scope → List Name → List tree.Tree → Trees → Option tree.Trees
 truths_behind s b ys no_trees = Some (trees_of ys)

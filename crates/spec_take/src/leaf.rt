@@ -12,8 +12,8 @@ ghost use Rattle.spec_scope.specs.declared.meaning.Kind.TheVariants.{Truth, Numb
 ghost use Rattle.spec_take.specs.Answers.{Gives};
 
 use crate::asking::given_at;
-use spec_scope::{BoundNames, Kind, Meaning, Scope, TakeStop};
 use spec_scope::leaves::literal_at;
+use spec_scope::{BoundNames, Kind, Meaning, Scope, TakeStop};
 use spec_tree::Expr;
 
 /// A literal.
@@ -69,5 +69,9 @@ pub(crate) fn sized_at(kind: Kind, n: u64, width: u64) -> Result<Expr, TakeStop>
     if width < 1 || width > 64 || u128::from(n) >= 1u128 << width {
         return Err(TakeStop::Unfit);
     }
-    given_at(kind, Kind::Number(width as u32), Expr::Const(width as u32, n))
+    given_at(
+        kind,
+        Kind::Number(width as u32),
+        Expr::Const(width as u32, n),
+    )
 }

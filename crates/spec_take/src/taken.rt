@@ -49,7 +49,15 @@ pub fn take<'e>(
             scalar_at(alloc, scope, kind, state.as_bytes(), field.as_bytes())
         }
         RawExpr::ReadAt(state, field, keys) => {
-            entry_at(alloc, scope, bound, kind, state.as_bytes(), field.as_bytes(), keys)
+            entry_at(
+                alloc,
+                scope,
+                bound,
+                kind,
+                state.as_bytes(),
+                field.as_bytes(),
+                keys,
+            )
         }
         RawExpr::Path(global, steps) => {
             path_at(alloc, scope, bound, kind, global.as_bytes(), steps)

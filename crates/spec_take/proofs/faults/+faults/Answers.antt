@@ -12,9 +12,9 @@ among-each-preserved t c =
     record {
       kept = c.in_ok-here.ensures.kept ∙ c.each.invariant.kept;
       left =
-      among_next s b c.each.bound c.as_slice-items.result.now c.each.e-index c.e-item.result (view_findings c.each.found) (view_findings c.in_ok-here.here)
-      (view_findings c.either-found.result) (findings_among s b (view_expr_list c.args.es.now)) c.e-item.is c.each-test.true c.each.invariant.kept c.in_ok-here.ensures.found
-      c.either-found.ensures c.each.invariant.left;
+          among_next s b c.each.bound c.as_slice-items.result.now c.each.e-index c.e-item.result (view_findings c.each.found) (view_findings c.in_ok-here.here)
+          (view_findings c.either-found.result) (findings_among s b (view_expr_list c.args.es.now)) c.e-item.is c.each-test.true c.each.invariant.kept c.in_ok-here.ensures.found
+          c.either-found.ensures c.each.invariant.left;
     }
 
 pub in_steps-each-preserved : goal.in_steps-each-preserved
@@ -24,7 +24,7 @@ in_steps-each-preserved t c =
     record {
       kept = c.in_ok-here.ensures.kept ∙ c.each.invariant.kept;
       left =
-      steps_next s b c.each.bound c.as_slice-items.result.now c.each.step-index c.step-item.result (view_findings c.each.found) (view_findings c.in_ok-here.here)
-      (view_findings c.either-found.result) (findings_in s b (view_step_list c.args.steps.now)) c.step-item.is c.each-test.true c.each.invariant.kept c.in_ok-here.ensures.found
-      c.either-found.ensures c.each.invariant.left;
+          steps_next s b c.each.bound c.as_slice-items.result.now c.each.step-index c.step-item.result (view_findings c.each.found) (view_findings c.in_ok-here.here)
+          (view_findings c.either-found.result) (findings_in s b (view_step_list c.args.steps.now)) c.step-item.is c.each-test.true c.each.invariant.kept c.in_ok-here.ensures.found
+          c.either-found.ensures c.each.invariant.left;
     }

@@ -16,8 +16,8 @@ truths-each-init t c =
     record {
       kept = refl;
       left =
-      ap (λ ys. truths_behind s b (map view_expr ys) (view_exprs c.as_slice-items.result.now)) c.new-taken.ensures.items
-      ∙ truths_law s b (view_exprs c.as_slice-items.result.now) ∙ ap (take_truths s b) same;
+          ap (λ ys. truths_behind s b (map view_expr ys) (view_exprs c.as_slice-items.result.now)) c.new-taken.ensures.items
+          ∙ truths_law s b (view_exprs c.as_slice-items.result.now) ∙ ap (take_truths s b) same;
     }
 
 pub indices-each-init : goal.indices-each-init
@@ -29,8 +29,8 @@ indices-each-init t c =
     record {
       kept = refl;
       left =
-      ap (λ ys. keys_behind s b keys (map view_expr ys) (view_exprs c.as_slice-items.result.now)) c.new-taken.ensures.items
-      ∙ keys_law s b keys (view_exprs c.as_slice-items.result.now) ∙ ap (take_keys s b keys) same;
+          ap (λ ys. keys_behind s b keys (map view_expr ys) (view_exprs c.as_slice-items.result.now)) c.new-taken.ensures.items
+          ∙ keys_law s b keys (view_exprs c.as_slice-items.result.now) ∙ ap (take_keys s b keys) same;
     }
 
 pub lead-each-init : goal.lead-each-init
@@ -43,6 +43,6 @@ lead-each-init t c =
       kept = refl;
       known = c.requires;
       left =
-      ap (λ ys. lead_behind s b 0 (map view_step ys) (view_steps c.as_slice-items.result.now) shape) c.new-taken.ensures.items
-      ∙ lead_law s b (view_steps c.as_slice-items.result.now) shape ∙ ap (λ steps. lead s b steps shape) same;
+          ap (λ ys. lead_behind s b 0 (map view_step ys) (view_steps c.as_slice-items.result.now) shape) c.new-taken.ensures.items
+          ∙ lead_law s b (view_steps c.as_slice-items.result.now) shape ∙ ap (λ steps. lead s b steps shape) same;
     }

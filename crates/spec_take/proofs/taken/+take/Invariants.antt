@@ -1,4 +1,4 @@
-use Rattle.std.proofs.Common.{◌≡◌, ◌≤◌, ◌+◌, ◌*◌, drop, map}
+use Rattle.std.proofs.Common.{◌≡◌, ◌+◌, ◌*◌, drop, map}
 use Rattle.spec_ast.specs.View.{view_exprs, view_expr_list, view_steps, view_step_list}
 use Rattle.spec_tree.specs.View.{view_expr, view_step, view_key}
 use Rattle.spec_kernel.specs.Seen.{shape_in, IsKnown}
