@@ -13,4 +13,4 @@ mod truths;
 
 pub use fields::{abstract_of, field_of};
 pub use steps::{Step, transition};
-pub use truths::{invariant_holds, property_holds};
+pub use truths::{invariant_holds, invariants_hold, properties_hold, property_holds};

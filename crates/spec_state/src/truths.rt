@@ -1,6 +1,7 @@
 //! Invariants and properties.
 
 ghost use Rattle.std.specs.Prelude.{◌≡◌, ◌<◌, Some, slice_get, length, IfOk};
+ghost use Rattle.std.specs.List.{list_all};
 ghost use Rattle.spec_tree.specs.Plain as plain;
 ghost use Rattle.spec_tree.specs.Sorted.{IsNamed, IsWellSorted, over_kernel, over_state, field_sorts};
 ghost use Rattle.spec_tree.specs.Shapes.{IsMemory, IsState};
@@ -99,4 +100,40 @@ pub fn property_holds(
 {
     let named = &spec.properties.as_slice()[p as usize];
     Ok(holds_in_state(alloc, spec, named, state)?)
+}
+
+/// Whether all invariants hold in a machine state. It stops at the first one that is false.
+///
+/// The conditions are a well-sorted specification and a memory of its objects.
+pub fn invariants_hold(alloc: Global, spec: &Spec, memory: &KMemory) -> Result<bool, AllocError>
+    requires spec { IsWellSorted (view_spec spec.now) }
+    requires memory { IsMemory spec.now.objects memory.now }
+    ensures { IfOk result (λ b. b ≡ list_all (λ i. meaning.invariant_holds (view_spec spec.now) i memory.now) (view_spec spec.now).invariants) }
+{
+    'each: for named in spec.invariants.as_slice() {
+        if !holds_in_memory(alloc, spec, named, memory)? {
+            return Ok(false);
+        }
+    }
+    Ok(true)
+}
+
+/// Whether all properties hold in an abstract state. It stops at the first one that is false.
+///
+/// The conditions are a well-sorted specification and a state of its shape.
+pub fn properties_hold(
+    alloc: Global,
+    spec: &Spec,
+    state: &AbstractState,
+) -> Result<bool, AllocError>
+    requires spec { IsWellSorted (view_spec spec.now) }
+    requires state { IsState (field_sorts (view_spec spec.now)) state.now }
+    ensures { IfOk result (λ b. b ≡ list_all (λ p. meaning.property_holds (view_spec spec.now) p state.now) (view_spec spec.now).properties) }
+{
+    'each: for named in spec.properties.as_slice() {
+        if !holds_in_state(alloc, spec, named, state)? {
+            return Ok(false);
+        }
+    }
+    Ok(true)
 }
