@@ -1,16 +1,15 @@
 -- Laws of comparisons of pointers.
-use Rattle.std.proofs.Common.{◌≡◌, ◌≢◌, ◌<◌, ◌≤◌, ◌-◌, ◌⊎◌, ℕ, zero, suc, Bool, true, false, not, ◌&&◌, ◌||◌, if◌then◌else◌, nat_eq, nat_lt, nat_le, inl, inr, refl, sym, ap, ◌∙◌, subst, arith}
+use Rattle.std.proofs.Common.{◌≡◌, ◌≢◌, ◌<◌, ◌≤◌, ◌-◌, ◌⊎◌, ℕ, Bool, true, false, not, ◌&&◌, ◌||◌, if◌then◌else◌, nat_eq, nat_lt, nat_le, inl, inr, refl, sym, ap, ◌∙◌, subst, arith}
 use Rattle.std.proofs.lemmas.Bool.{lt-ltb, le-ltb, le-leb, lt-leb, cases_lt, ne_eqb, eq-eqb}
 use Rattle.std.proofs.lemmas.Bool.Decides.{eqb_tells}
 use Rattle.ir_ast.specs.declared.instr.Predicate.{Predicate}
 use Rattle.ir_ast.specs.declared.instr.Predicate.TheVariants.{Eq, Ne, Ugt, Uge, Ult, Ule, Sgt, Sge, Slt, Sle}
 use Rattle.ir_value.specs.declared.value.Value.{Value}
 use Rattle.ir_value.specs.declared.value.Value.TheVariants.{Number, Null, Address, Poison}
-use Rattle.ir_value.specs.declared.value.Made.{Made}
-use Rattle.ir_value.specs.declared.value.Made.TheVariants.{Gives, Sticks, Lost}
+use Rattle.ir_value.specs.declared.value.Made.TheVariants.{Gives, Sticks}
 use Rattle.ir_value.specs.declared.value.StuckReason.TheVariants.{U15}
 use Rattle.ir_value.specs.Numbers.{truth, holds}
-use Rattle.ir_value.specs.Pointers.{is_equality, compare_nulls, compare_with_null, compare_within, compare_addresses, compare_pointers}
+use Rattle.ir_value.specs.Pointers.{is_equality, compare_nulls, compare_with_null, compare_within, compare_pointers}
 use Rattle.hk_symvalue.specs.Meaning.{based, stands_for}
 use Rattle.hk_symvalue.specs.Rows.{Answers, flagged, pointers_stick, pointers_hold}
 

@@ -8,3 +8,4 @@ pub mod PointerLaws
 pub mod PairLaws
 pub mod RangeLaws
 pub mod AddressLaws
+pub mod IndexLaws

@@ -1,12 +1,12 @@
 -- Laws of the intrinsics that make one number of two.
-use Rattle.std.proofs.Common.{◌≡◌, ◌<◌, ◌≤◌, ◌^◌, ◌-◌, ◌+◌, ◌%◌, ◌⊎◌, ℕ, zero, suc, Bool, true, false, not, ◌&&◌, ◌||◌, ◌==◌, if◌then◌else◌, nat_eq, nat_lt, nat_le, int_lt, unsigned_abs, inl, inr, refl, sym, ap, ◌∙◌, subst, arith}
+use Rattle.std.proofs.Common.{◌≡◌, ◌<◌, ◌≤◌, ◌^◌, ◌-◌, ◌+◌, ◌⊎◌, ℕ, suc, Bool, true, false, not, ◌&&◌, ◌||◌, ◌==◌, if◌then◌else◌, nat_eq, nat_lt, int_lt, unsigned_abs, inl, inr, refl, sym, ap, ◌∙◌, subst, arith}
 use Rattle.std.proofs.Math.Nat.{mod-eq_of_lt}
 use Rattle.std.proofs.lemmas.Nat.{pow_pos}
-use Rattle.std.proofs.lemmas.Bool.{lt-ltb, le-ltb, cases_lt, eqb-true, ne_eqb, eq-eqb}
+use Rattle.std.proofs.lemmas.Bool.{lt-ltb, le-ltb, cases_lt, eqb-true}
 use Rattle.hk_num.specs.Numbers.{signed_of, bvslt, bvsub}
 use Rattle.hk_num.proofs.Readings.{halves, reading_low, reading_high}
 use Rattle.ir_value.specs.declared.value.Value.{Value}
-use Rattle.ir_value.specs.declared.value.Value.TheVariants.{Number, Poison}
+use Rattle.ir_value.specs.declared.value.Value.TheVariants.{Number}
 use Rattle.ir_value.specs.declared.value.Made.{Made}
 use Rattle.ir_value.specs.declared.value.Made.TheVariants.{Gives, Sticks, Lost}
 use Rattle.ir_value.specs.declared.intrinsics.PairKind.{PairKind}

@@ -1,11 +1,11 @@
 -- Laws of addresses.
-use Rattle.std.proofs.Common.{◌≡◌, ◌≢◌, ◌<◌, ◌≤◌, ◌^◌, ◌+◌, ◌-◌, ◌*◌, ◌%◌, ◌⊎◌, ℕ, zero, suc, ℤ, pos, Bool, true, false, not, ◌&&◌, ◌||◌, ◌==◌, if◌then◌else◌, nat_eq, nat_lt, nat_le, inl, inr, refl, sym, ap, ◌∙◌, subst, arith, rules}
+use Rattle.std.proofs.Common.{◌≡◌, ◌≢◌, ◌<◌, ◌≤◌, ◌^◌, ◌+◌, ◌-◌, ◌*◌, ◌%◌, ◌⊎◌, ℕ, pos, Bool, true, false, not, ◌&&◌, ◌||◌, ◌==◌, if◌then◌else◌, nat_eq, nat_lt, nat_le, inl, inr, refl, sym, ap, ◌∙◌, subst, arith}
 use Rattle.std.proofs.Math.Nat.{mod-eq_of_lt, add-mul-mod_self_right}
-use Rattle.std.proofs.lemmas.Bool.{lt-ltb, le-ltb, le-leb, lt-leb, cases_lt, ne_eqb, eqb-true}
+use Rattle.std.proofs.lemmas.Bool.{lt-ltb, le-ltb, le-leb, lt-leb, cases_lt, ne_eqb}
 use Rattle.hk_term.specs.Operations.{urem_value}
 use Rattle.ir_value.specs.declared.value.Value.{Value}
 use Rattle.ir_value.specs.declared.value.Value.TheVariants.{Number, Null, Address, Poison}
-use Rattle.ir_value.specs.declared.value.StuckReason.TheVariants.{U5, U6, U7, U8}
+use Rattle.ir_value.specs.declared.value.StuckReason.TheVariants.{U6, U7}
 use Rattle.ir_value.specs.declared.access.Access.TheVariants.{At, Not, Nowhere}
 use Rattle.ir_value.specs.Pointers.{reach, reach_of, begin_at, moved_within}
 use Rattle.hk_symvalue.specs.Meaning.{stands_for}

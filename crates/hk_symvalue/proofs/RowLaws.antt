@@ -1,12 +1,10 @@
 -- How terms answer the rows of operations on numbers.
-use Rattle.std.proofs.Common.{◌≡◌, ◌<◌, ◌≤◌, ◌^◌, ◌-◌, ◌%◌, ◌⊎◌, ℕ, zero, suc, Bool, true, false, not, ◌&&◌, ◌||◌, ◌==◌, if◌then◌else◌, nat_eq, nat_lt, nat_le, inl, inr, refl, sym, ap, ◌∙◌, subst, arith}
-use Rattle.ir_value.specs.declared.value.Value.{Value}
-use Rattle.ir_value.specs.declared.value.Value.TheVariants.{Number, Null, Address, Poison}
-use Rattle.ir_value.specs.declared.value.Made.{Made}
-use Rattle.ir_value.specs.declared.value.Made.TheVariants.{Gives, Sticks, Lost}
+use Rattle.std.proofs.Common.{◌≡◌, ℕ, Bool, true, false, ◌||◌, if◌then◌else◌, refl, sym, ◌∙◌, subst}
+use Rattle.ir_value.specs.declared.value.Value.TheVariants.{Poison}
+use Rattle.ir_value.specs.declared.value.Made.TheVariants.{Gives, Sticks}
 use Rattle.ir_value.specs.declared.value.StuckReason.{StuckReason}
 use Rattle.ir_value.specs.Numbers.{unless}
-use Rattle.hk_symvalue.specs.Rows.{Answers, Shown, sticks, flagged}
+use Rattle.hk_symvalue.specs.Rows.{Shown, flagged}
 
 -- poison by a test, or the number
 pub shown_unless : (p t : Bool) (n m : ℕ) → p ≡ t → n ≡ m → Shown (flagged p n) (unless t m)

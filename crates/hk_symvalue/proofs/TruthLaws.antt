@@ -1,7 +1,6 @@
 -- Truth values as numbers of width 1.
 use Rattle.std.proofs.Common.{◌≡◌, ◌<◌, ◌^◌, ◌-◌, ◌⊎◌, ℕ, zero, suc, Bool, true, false, not, ◌&&◌, ◌||◌, if◌then◌else◌, nat_eq, bit_and, bit_or, inl, inr, refl, sym, ap, ◌∙◌, subst, arith}
-use Rattle.hk_term.specs.Operations.{bit, unary_value, binary_value}
-use Rattle.hk_term.specs.declared.node.UnaryKind.TheVariants.{Not}
+use Rattle.hk_term.specs.Operations.{bit}
 
 pub bit_true : (b : Bool) → nat_eq (bit b) 1 ≡ b
 bit_true true = refl

@@ -3,7 +3,7 @@ use Rattle.ir_ast.specs.declared.instr.Predicate.{Predicate}
 use Rattle.ir_value.specs.Intrinsics.{assumes, wrapped, overflowed, overflow_of}
 use Rattle.ir_value.specs.declared.intrinsics.OverflowKind.{OverflowKind}
 use Rattle.hk_symvalue.proofs.TruthLaws.{one_bit}
-use Rattle.std.proofs.Common.{◌≡◌, ◌<◌, ◌≤◌, ◌^◌, ◌+◌, ◌-◌, ◌%◌, ◌⊎◌, ℕ, zero, suc, Bool, true, false, not, ◌&&◌, ◌||◌, ◌==◌, if◌then◌else◌, nat_eq, nat_lt, nat_le, inl, inr, refl, sym, ap, ◌∙◌, subst, arith, rules}
+use Rattle.std.proofs.Common.{◌≡◌, ◌<◌, ◌^◌, ◌+◌, ◌-◌, ◌%◌, ◌⊎◌, ℕ, Bool, true, false, not, ◌&&◌, ◌||◌, ◌==◌, if◌then◌else◌, nat_eq, nat_lt, nat_le, inl, inr, refl, sym, ap, ◌∙◌, subst, arith, rules}
 use Rattle.std.proofs.Math.Nat.{mod-eq_of_lt}
 use Rattle.std.proofs.lemmas.Bool.{ne_eqb, ltb-true, eqb-true}
 use Rattle.ir_ast.specs.declared.instr.BinaryKind.{BinaryKind}
@@ -16,8 +16,8 @@ use Rattle.ir_value.specs.declared.value.Made.{Made}
 use Rattle.ir_value.specs.declared.value.Made.TheVariants.{Gives, Sticks, Lost}
 use Rattle.ir_value.specs.declared.value.StuckReason.TheVariants.{U1, U2}
 use Rattle.hk_num.specs.Numbers.{bvslt, sign_extend, bvudiv, bvurem, bvsdiv, bvsrem}
-use Rattle.ir_value.specs.Numbers.{is_width, is_number, takes, unless, is_minus_one, is_least, of_numbers, binary_of, binary, by_poison, poison_by, is_division, is_signed_division, shift, plain, truth, holds, compare_of, freeze, select, convert_of}
-use Rattle.hk_symvalue.specs.Meaning.{based, stands_for}
+use Rattle.ir_value.specs.Numbers.{is_width, takes, unless, is_minus_one, is_least, of_numbers, binary_of, by_poison, poison_by, is_division, is_signed_division, truth, holds, compare_of, freeze, select, convert_of}
+use Rattle.hk_symvalue.specs.Meaning.{stands_for}
 use Rattle.hk_symvalue.specs.Rows.{Answers, Shown, sticks, flagged, binary_sticks}
 
 pub address : (o x : ℕ) → stands_for false (o + 2) x ≡ Address o x

@@ -1,3 +1,4 @@
 pub mod Growth
 pub mod Meaning
 pub mod Rows
+pub mod Indices

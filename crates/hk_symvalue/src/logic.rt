@@ -11,7 +11,7 @@ use hk_term::{Node, TermId, Terms};
 use std::alloc::AllocError;
 
 /// The constant of a truth value.
-pub(crate) fn constant(t: &mut Terms, is: bool) -> Result<TermId, AllocError>
+pub fn constant(t: &mut Terms, is: bool) -> Result<TermId, AllocError>
     ensures frame { Extends t.old t.new }
     ensures truth { IfOk result (λ r. IsTruth t.new r) }
     ensures value { IfOk result (λ r. (v : Reading) → is_true t.new r v ≡ is) }
@@ -24,7 +24,7 @@ pub(crate) fn constant(t: &mut Terms, is: bool) -> Result<TermId, AllocError>
 }
 
 /// The negation.
-pub(crate) fn not(t: &mut Terms, a: TermId) -> Result<TermId, AllocError>
+pub fn not(t: &mut Terms, a: TermId) -> Result<TermId, AllocError>
     requires { IsTruth t.old a }
     ensures frame { Extends t.old t.new }
     ensures truth { IfOk result (λ r. IsTruth t.new r) }
@@ -36,7 +36,7 @@ pub(crate) fn not(t: &mut Terms, a: TermId) -> Result<TermId, AllocError>
 }
 
 /// The conjunction.
-pub(crate) fn and(t: &mut Terms, a: TermId, b: TermId) -> Result<TermId, AllocError>
+pub fn and(t: &mut Terms, a: TermId, b: TermId) -> Result<TermId, AllocError>
     requires first { IsTruth t.old a }
     requires second { IsTruth t.old b }
     ensures frame { Extends t.old t.new }
@@ -50,7 +50,7 @@ pub(crate) fn and(t: &mut Terms, a: TermId, b: TermId) -> Result<TermId, AllocEr
 }
 
 /// The disjunction.
-pub(crate) fn or(t: &mut Terms, a: TermId, b: TermId) -> Result<TermId, AllocError>
+pub fn or(t: &mut Terms, a: TermId, b: TermId) -> Result<TermId, AllocError>
     requires first { IsTruth t.old a }
     requires second { IsTruth t.old b }
     ensures frame { Extends t.old t.new }
@@ -64,7 +64,7 @@ pub(crate) fn or(t: &mut Terms, a: TermId, b: TermId) -> Result<TermId, AllocErr
 }
 
 /// The first of two truth values where a condition is true, and else the second.
-pub(crate) fn choose(t: &mut Terms, c: TermId, a: TermId, b: TermId) -> Result<TermId, AllocError>
+pub fn choose(t: &mut Terms, c: TermId, a: TermId, b: TermId) -> Result<TermId, AllocError>
     requires condition { IsTruth t.old c }
     requires first { IsTruth t.old a }
     requires second { IsTruth t.old b }
@@ -77,7 +77,7 @@ pub(crate) fn choose(t: &mut Terms, c: TermId, a: TermId, b: TermId) -> Result<T
 }
 
 /// Whether two terms of one width are equal.
-pub(crate) fn eq(t: &mut Terms, a: TermId, b: TermId) -> Result<TermId, AllocError>
+pub fn eq(t: &mut Terms, a: TermId, b: TermId) -> Result<TermId, AllocError>
     requires first { a < length t.old }
     requires second { b < length t.old }
     requires widths { width t.old a ≡ width t.old b }
@@ -90,7 +90,7 @@ pub(crate) fn eq(t: &mut Terms, a: TermId, b: TermId) -> Result<TermId, AllocErr
 }
 
 /// Whether the first of two terms of one width is less, as a number.
-pub(crate) fn ult(t: &mut Terms, a: TermId, b: TermId) -> Result<TermId, AllocError>
+pub fn ult(t: &mut Terms, a: TermId, b: TermId) -> Result<TermId, AllocError>
     requires first { a < length t.old }
     requires second { b < length t.old }
     requires widths { width t.old a ≡ width t.old b }
@@ -103,7 +103,7 @@ pub(crate) fn ult(t: &mut Terms, a: TermId, b: TermId) -> Result<TermId, AllocEr
 }
 
 /// Whether the first of two terms of one width is less, by their signed readings.
-pub(crate) fn slt(t: &mut Terms, a: TermId, b: TermId) -> Result<TermId, AllocError>
+pub fn slt(t: &mut Terms, a: TermId, b: TermId) -> Result<TermId, AllocError>
     requires first { a < length t.old }
     requires second { b < length t.old }
     requires widths { width t.old a ≡ width t.old b }
@@ -116,7 +116,7 @@ pub(crate) fn slt(t: &mut Terms, a: TermId, b: TermId) -> Result<TermId, AllocEr
 }
 
 /// Whether one of two truth values is true and the other is not.
-pub(crate) fn differ(t: &mut Terms, a: TermId, b: TermId) -> Result<TermId, AllocError>
+pub fn differ(t: &mut Terms, a: TermId, b: TermId) -> Result<TermId, AllocError>
     requires first { IsTruth t.old a }
     requires second { IsTruth t.old b }
     ensures frame { Extends t.old t.new }
@@ -130,7 +130,7 @@ pub(crate) fn differ(t: &mut Terms, a: TermId, b: TermId) -> Result<TermId, Allo
 }
 
 /// A truth value where a flag is set, and else false.
-pub(crate) fn flagged(t: &mut Terms, flag: bool, a: TermId) -> Result<TermId, AllocError>
+pub fn flagged(t: &mut Terms, flag: bool, a: TermId) -> Result<TermId, AllocError>
     requires { IsTruth t.old a }
     ensures frame { Extends t.old t.new }
     ensures truth { IfOk result (λ r. IsTruth t.new r) }

@@ -12,7 +12,7 @@ use hk_term::{TermId, TermKind, Terms, UnaryKind};
 use std::alloc::AllocError;
 
 /// The sum.
-pub(crate) fn add(t: &mut Terms, a: TermId, b: TermId) -> Result<TermId, AllocError>
+pub fn add(t: &mut Terms, a: TermId, b: TermId) -> Result<TermId, AllocError>
     requires first { a < length t.old }
     requires second { b < length t.old }
     requires widths { width t.old a ≡ width t.old b }
@@ -25,7 +25,7 @@ pub(crate) fn add(t: &mut Terms, a: TermId, b: TermId) -> Result<TermId, AllocEr
 }
 
 /// The difference.
-pub(crate) fn sub(t: &mut Terms, a: TermId, b: TermId) -> Result<TermId, AllocError>
+pub fn sub(t: &mut Terms, a: TermId, b: TermId) -> Result<TermId, AllocError>
     requires first { a < length t.old }
     requires second { b < length t.old }
     requires widths { width t.old a ≡ width t.old b }
@@ -38,7 +38,7 @@ pub(crate) fn sub(t: &mut Terms, a: TermId, b: TermId) -> Result<TermId, AllocEr
 }
 
 /// The product.
-pub(crate) fn mul(t: &mut Terms, a: TermId, b: TermId) -> Result<TermId, AllocError>
+pub fn mul(t: &mut Terms, a: TermId, b: TermId) -> Result<TermId, AllocError>
     requires first { a < length t.old }
     requires second { b < length t.old }
     requires widths { width t.old a ≡ width t.old b }
@@ -51,7 +51,7 @@ pub(crate) fn mul(t: &mut Terms, a: TermId, b: TermId) -> Result<TermId, AllocEr
 }
 
 /// The quotient.
-pub(crate) fn udiv(t: &mut Terms, a: TermId, b: TermId) -> Result<TermId, AllocError>
+pub fn udiv(t: &mut Terms, a: TermId, b: TermId) -> Result<TermId, AllocError>
     requires first { a < length t.old }
     requires second { b < length t.old }
     requires widths { width t.old a ≡ width t.old b }
@@ -64,7 +64,7 @@ pub(crate) fn udiv(t: &mut Terms, a: TermId, b: TermId) -> Result<TermId, AllocE
 }
 
 /// The remainder.
-pub(crate) fn urem(t: &mut Terms, a: TermId, b: TermId) -> Result<TermId, AllocError>
+pub fn urem(t: &mut Terms, a: TermId, b: TermId) -> Result<TermId, AllocError>
     requires first { a < length t.old }
     requires second { b < length t.old }
     requires widths { width t.old a ≡ width t.old b }
@@ -77,7 +77,7 @@ pub(crate) fn urem(t: &mut Terms, a: TermId, b: TermId) -> Result<TermId, AllocE
 }
 
 /// The quotient of the signed readings.
-pub(crate) fn sdiv(t: &mut Terms, a: TermId, b: TermId) -> Result<TermId, AllocError>
+pub fn sdiv(t: &mut Terms, a: TermId, b: TermId) -> Result<TermId, AllocError>
     requires first { a < length t.old }
     requires second { b < length t.old }
     requires widths { width t.old a ≡ width t.old b }
@@ -90,7 +90,7 @@ pub(crate) fn sdiv(t: &mut Terms, a: TermId, b: TermId) -> Result<TermId, AllocE
 }
 
 /// The remainder of the signed readings.
-pub(crate) fn srem(t: &mut Terms, a: TermId, b: TermId) -> Result<TermId, AllocError>
+pub fn srem(t: &mut Terms, a: TermId, b: TermId) -> Result<TermId, AllocError>
     requires first { a < length t.old }
     requires second { b < length t.old }
     requires widths { width t.old a ≡ width t.old b }
@@ -103,7 +103,7 @@ pub(crate) fn srem(t: &mut Terms, a: TermId, b: TermId) -> Result<TermId, AllocE
 }
 
 /// A term shifted to the left.
-pub(crate) fn shl(t: &mut Terms, a: TermId, b: TermId) -> Result<TermId, AllocError>
+pub fn shl(t: &mut Terms, a: TermId, b: TermId) -> Result<TermId, AllocError>
     requires first { a < length t.old }
     requires second { b < length t.old }
     requires widths { width t.old a ≡ width t.old b }
@@ -116,7 +116,7 @@ pub(crate) fn shl(t: &mut Terms, a: TermId, b: TermId) -> Result<TermId, AllocEr
 }
 
 /// A term shifted to the right, with zeros before it.
-pub(crate) fn lshr(t: &mut Terms, a: TermId, b: TermId) -> Result<TermId, AllocError>
+pub fn lshr(t: &mut Terms, a: TermId, b: TermId) -> Result<TermId, AllocError>
     requires first { a < length t.old }
     requires second { b < length t.old }
     requires widths { width t.old a ≡ width t.old b }
@@ -129,7 +129,7 @@ pub(crate) fn lshr(t: &mut Terms, a: TermId, b: TermId) -> Result<TermId, AllocE
 }
 
 /// A term shifted to the right, with copies of its sign before it.
-pub(crate) fn ashr(t: &mut Terms, a: TermId, b: TermId) -> Result<TermId, AllocError>
+pub fn ashr(t: &mut Terms, a: TermId, b: TermId) -> Result<TermId, AllocError>
     requires first { a < length t.old }
     requires second { b < length t.old }
     requires widths { width t.old a ≡ width t.old b }
@@ -142,7 +142,7 @@ pub(crate) fn ashr(t: &mut Terms, a: TermId, b: TermId) -> Result<TermId, AllocE
 }
 
 /// The bits that are ones in both.
-pub(crate) fn and(t: &mut Terms, a: TermId, b: TermId) -> Result<TermId, AllocError>
+pub fn and(t: &mut Terms, a: TermId, b: TermId) -> Result<TermId, AllocError>
     requires first { a < length t.old }
     requires second { b < length t.old }
     requires widths { width t.old a ≡ width t.old b }
@@ -155,7 +155,7 @@ pub(crate) fn and(t: &mut Terms, a: TermId, b: TermId) -> Result<TermId, AllocEr
 }
 
 /// The bits that are ones in one.
-pub(crate) fn or(t: &mut Terms, a: TermId, b: TermId) -> Result<TermId, AllocError>
+pub fn or(t: &mut Terms, a: TermId, b: TermId) -> Result<TermId, AllocError>
     requires first { a < length t.old }
     requires second { b < length t.old }
     requires widths { width t.old a ≡ width t.old b }
@@ -168,7 +168,7 @@ pub(crate) fn or(t: &mut Terms, a: TermId, b: TermId) -> Result<TermId, AllocErr
 }
 
 /// The bits that differ.
-pub(crate) fn xor(t: &mut Terms, a: TermId, b: TermId) -> Result<TermId, AllocError>
+pub fn xor(t: &mut Terms, a: TermId, b: TermId) -> Result<TermId, AllocError>
     requires first { a < length t.old }
     requires second { b < length t.old }
     requires widths { width t.old a ≡ width t.old b }
@@ -181,7 +181,7 @@ pub(crate) fn xor(t: &mut Terms, a: TermId, b: TermId) -> Result<TermId, AllocEr
 }
 
 /// The two's complement.
-pub(crate) fn neg(t: &mut Terms, a: TermId) -> Result<TermId, AllocError>
+pub fn neg(t: &mut Terms, a: TermId) -> Result<TermId, AllocError>
     requires { a < length t.old }
     ensures frame { Extends t.old t.new }
     ensures word { IfOk result (λ r. IsWord t.new (width t.old a) r) }
@@ -192,7 +192,7 @@ pub(crate) fn neg(t: &mut Terms, a: TermId) -> Result<TermId, AllocError>
 }
 
 /// The first of two terms where a condition is true, and else the second.
-pub(crate) fn choose(t: &mut Terms, c: TermId, a: TermId, b: TermId) -> Result<TermId, AllocError>
+pub fn choose(t: &mut Terms, c: TermId, a: TermId, b: TermId) -> Result<TermId, AllocError>
     requires condition { IsTruth t.old c }
     requires first { a < length t.old }
     requires second { b < length t.old }
@@ -206,7 +206,7 @@ pub(crate) fn choose(t: &mut Terms, c: TermId, a: TermId, b: TermId) -> Result<T
 }
 
 /// A term with zeros above.
-pub(crate) fn zero_extend(t: &mut Terms, to: u32, a: TermId) -> Result<TermId, AllocError>
+pub fn zero_extend(t: &mut Terms, to: u32, a: TermId) -> Result<TermId, AllocError>
     requires term { a < length t.old }
     requires wider { width t.old a ≤ to }
     requires within { to ≤ 64 }
@@ -219,7 +219,7 @@ pub(crate) fn zero_extend(t: &mut Terms, to: u32, a: TermId) -> Result<TermId, A
 }
 
 /// A term with copies of its sign above.
-pub(crate) fn sign_extend(t: &mut Terms, to: u32, a: TermId) -> Result<TermId, AllocError>
+pub fn sign_extend(t: &mut Terms, to: u32, a: TermId) -> Result<TermId, AllocError>
     requires term { a < length t.old }
     requires wider { width t.old a ≤ to }
     requires within { to ≤ 64 }

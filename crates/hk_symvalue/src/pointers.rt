@@ -16,7 +16,7 @@ use hk_term::{TermId, Terms};
 use std::alloc::AllocError;
 
 /// The bits of a value as an offset.
-pub(crate) fn offset_of(t: &mut Terms, a: TermId) -> Result<TermId, AllocError>
+pub fn offset_of(t: &mut Terms, a: TermId) -> Result<TermId, AllocError>
     requires { a < length t.old }
     ensures frame { Extends t.old t.new }
     ensures word { IfOk result (λ r. IsWord t.new 64 r) }
@@ -28,7 +28,7 @@ pub(crate) fn offset_of(t: &mut Terms, a: TermId) -> Result<TermId, AllocError>
 }
 
 // Offsets are numbers of width 64. The call does nothing: its contract is a law of the list.
-fn are_small(t: &Terms, a: TermId)
+pub(crate) fn are_small(t: &Terms, a: TermId)
     requires { a < length t.now }
     ensures { (v : Reading) → value t.now a v < 2 ^ 64 }
 {
@@ -36,7 +36,7 @@ fn are_small(t: &Terms, a: TermId)
 }
 
 /// Whether a term of width 64 is a number.
-pub(crate) fn is_word(t: &mut Terms, a: TermId, n: u64) -> Result<TermId, AllocError>
+pub fn is_word(t: &mut Terms, a: TermId, n: u64) -> Result<TermId, AllocError>
     requires { IsWord t.old 64 a }
     ensures frame { Extends t.old t.new }
     ensures truth { IfOk result (λ r. IsTruth t.new r) }

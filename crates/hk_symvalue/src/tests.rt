@@ -5,7 +5,7 @@ ghost use Rattle.std.specs.Prelude.{◌≡◌, ℕ, ◌<◌, ◌≤◌, length, 
 ghost use Rattle.hk_term.specs.Shape.{IsWidth, width};
 ghost use Rattle.hk_symvalue.specs.Meaning.{IsSym, IsTruth};
 
-use crate::{SymValue, binary, compare_pointers, is_between, of_term, of_value, pair};
+use crate::{SymValue, binary, compare_pointers, is_between, of_term, of_value, pair, step};
 use hk_term::{Node, TermId, Terms, Valuation, ValueRoom};
 use ir_ast::{BinaryKind, Flags, Predicate};
 use ir_value::{PairKind, Value};
@@ -250,6 +250,66 @@ fn comparisons_of_pointers(rt: HostRuntime) -> Result<(), AllocError> {
     ];
     for (predicate, x, y, answer) in rows {
         assert!(rt; compared(rt.alloc(), predicate, x, y)? == answer);
+    }
+    Ok(())
+}
+
+// The address that an index of 8 bits steps to, in an object of 16 bytes.
+fn stepped(
+    alloc: Global,
+    inbounds: bool,
+    each: u64,
+    index: u64,
+    from: Value,
+) -> Result<Value, AllocError> {
+    let mut t = Terms::new(alloc);
+    let size = t.intern(Node::Var { width: 64, id: 2 })?;
+    let i = variable(&mut t, 8, 1)?;
+    let a = of_value(&mut t, from)?;
+    let made = step(&mut t, inbounds, size, 8, each, i, a)?;
+    let v = valuation(alloc, index, 16)?;
+    read_any(alloc, &t, &v, made)
+}
+
+fn read_any(alloc: Global, t: &Terms, v: &Valuation, value: SymValue) -> Result<Value, AllocError>
+    requires { IsSym t.now value }
+{
+    let poison = number(alloc, t, v, value.poison)?;
+    let base = number(alloc, t, v, value.base)?;
+    let bits = number(alloc, t, v, value.bits)?;
+    if poison == 1 {
+        Ok(Value::Poison)
+    } else if base == 0 {
+        Ok(Value::Number(bits))
+    } else if base == 1 {
+        Ok(Value::Null)
+    } else {
+        Ok(at(((base - 2) % 4_294_967_296) as u32, bits))
+    }
+}
+
+#[test]
+fn steps_of_8_bits(rt: HostRuntime) -> Result<(), AllocError> {
+    let last = u64::MAX;
+    let rows = [
+        (true, 4, 3, at(0, 4), at(0, 16)),
+        (true, 4, 4, at(0, 4), Value::Poison),
+        (true, 4, 255, at(0, 4), at(0, 0)),
+        (true, 4, 254, at(0, 4), Value::Poison),
+        (true, 1 << 63, 2, at(0, 4), Value::Poison),
+        (false, 1 << 63, 2, at(0, 4), at(0, 4)),
+        (false, 4, 254, at(0, 4), at(0, last - 3)),
+        (false, 4, 128, at(0, 4), at(0, last - 507)),
+        (true, 0, 128, at(0, 4), at(0, 4)),
+        (true, 4, 0, Value::Null, Value::Null),
+        (true, 4, 1, Value::Null, Value::Poison),
+        (false, 1 << 63, 2, Value::Null, Value::Null),
+        (true, 1 << 63, 2, Value::Null, Value::Poison),
+        (false, 4, 0, Value::Number(4), Value::Poison),
+        (false, 4, 0, Value::Poison, Value::Poison),
+    ];
+    for (inbounds, each, index, from, answer) in rows {
+        assert!(rt; stepped(rt.alloc(), inbounds, each, index, from)? == answer);
     }
     Ok(())
 }

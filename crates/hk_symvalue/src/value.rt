@@ -40,3 +40,12 @@ pub(crate) struct Place {
     pub(crate) base: TermId,
     pub(crate) offset: TermId,
 }
+
+// What an index of a `getelementptr` steps over: whether it leads back, whether its bytes are over 2^64 - 1, and how many they are
+// modulo 2^64.
+#[derive(Clone, Copy, Debug)]
+pub(crate) struct Moved {
+    pub(crate) back: TermId,
+    pub(crate) over: TermId,
+    pub(crate) by: TermId,
+}

@@ -13,7 +13,7 @@ use hk_term::{Node, TermId, Terms};
 use std::alloc::AllocError;
 
 /// The width of a term. Its values are below 2 to the width.
-pub(crate) fn sized(t: &Terms, a: TermId) -> u32
+pub fn sized(t: &Terms, a: TermId) -> u32
     requires { a < length t.now }
     ensures width { result ≡ width t.now a }
     ensures is_width { IsWidth result }
@@ -24,7 +24,7 @@ pub(crate) fn sized(t: &Terms, a: TermId) -> u32
 }
 
 /// The number of a constant.
-pub(crate) fn constant(t: &Terms, a: TermId) -> Option<u64>
+pub fn constant(t: &Terms, a: TermId) -> Option<u64>
     requires { a < length t.now }
     ensures known { IfSome result (λ n. (v : Reading) → value t.now a v ≡ n) }
     ensures number { IfSome result (λ n. n < 2 ^ width t.now a) }
@@ -36,7 +36,7 @@ pub(crate) fn constant(t: &Terms, a: TermId) -> Option<u64>
 }
 
 /// The constant of a number of a width.
-pub(crate) fn number(t: &mut Terms, w: u32, n: u64) -> Result<TermId, AllocError>
+pub fn number(t: &mut Terms, w: u32, n: u64) -> Result<TermId, AllocError>
     requires width { IsWidth w }
     requires number { n < 2 ^ w }
     ensures frame { Extends t.old t.new }
@@ -48,7 +48,7 @@ pub(crate) fn number(t: &mut Terms, w: u32, n: u64) -> Result<TermId, AllocError
 }
 
 /// The greatest number of a width.
-pub(crate) fn greatest(w: u32) -> u64
+pub fn greatest(w: u32) -> u64
     requires { IsWidth w }
     ensures { result ≡ 2 ^ w - 1 }
 {
@@ -56,7 +56,7 @@ pub(crate) fn greatest(w: u32) -> u64
 }
 
 /// A term at a width: its lowest bits, or with zeros above.
-pub(crate) fn at_width(t: &mut Terms, w: u32, a: TermId) -> Result<TermId, AllocError>
+pub fn at_width(t: &mut Terms, w: u32, a: TermId) -> Result<TermId, AllocError>
     requires width { IsWidth w }
     requires term { a < length t.old }
     ensures frame { Extends t.old t.new }
@@ -96,7 +96,7 @@ fn narrowed(t: &mut Terms, w: u32, a: TermId) -> Result<TermId, AllocError>
 }
 
 /// Whether the number of a term is one of a width.
-pub(crate) fn fits(t: &mut Terms, w: u32, a: TermId) -> Result<TermId, AllocError>
+pub fn fits(t: &mut Terms, w: u32, a: TermId) -> Result<TermId, AllocError>
     requires width { IsWidth w }
     requires term { a < length t.old }
     ensures frame { Extends t.old t.new }
@@ -131,7 +131,7 @@ fn fits_narrower(t: &mut Terms, w: u32, u: u32, a: TermId) -> Result<TermId, All
 }
 
 /// Whether the signed reading of a term is below 0.
-pub(crate) fn is_negative(t: &mut Terms, a: TermId) -> Result<TermId, AllocError>
+pub fn is_negative(t: &mut Terms, a: TermId) -> Result<TermId, AllocError>
     requires { a < length t.old }
     ensures frame { Extends t.old t.new }
     ensures truth { IfOk result (λ r. IsTruth t.new r) }
@@ -143,7 +143,7 @@ pub(crate) fn is_negative(t: &mut Terms, a: TermId) -> Result<TermId, AllocError
 }
 
 /// The magnitude of the signed reading of a term.
-pub(crate) fn magnitude(t: &mut Terms, a: TermId) -> Result<TermId, AllocError>
+pub fn magnitude(t: &mut Terms, a: TermId) -> Result<TermId, AllocError>
     requires { a < length t.old }
     ensures frame { Extends t.old t.new }
     ensures word { IfOk result (λ r. IsWord t.new (width t.old a) r) }
@@ -157,7 +157,7 @@ pub(crate) fn magnitude(t: &mut Terms, a: TermId) -> Result<TermId, AllocError>
 }
 
 // A truth value as a number. The call does nothing: its contract is a law of the list.
-pub(crate) fn bit_of(t: &Terms, a: TermId)
+pub fn bit_of(t: &Terms, a: TermId)
     requires { IsTruth t.now a }
     ensures { (v : Reading) → value t.now a v ≡ truth (is_true t.now a v) }
 {

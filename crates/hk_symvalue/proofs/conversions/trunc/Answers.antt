@@ -1,5 +1,4 @@
 use Rattle.std.proofs.Common.{◌≡◌, ◌||◌, ◌%◌, ◌^◌, false, rules}
-use Rattle.hk_num.specs.Numbers.{sign_extend}
 use Rattle.hk_term.specs.Shape.{width}
 use Rattle.hk_term.specs.Meaning.{value}
 use Rattle.hk_symvalue.specs.Meaning.{is_true, meaning}

@@ -1,5 +1,5 @@
-use Rattle.std.proofs.Common.{◌≡◌, ◌∙◌, ◌-◌, ◌^◌, ◌<◌, ◌≤◌, not, nat_lt, rules, ◌&&◌}
-use Rattle.hk_num.specs.Numbers.{bvadd, bvsub}
+use Rattle.std.proofs.Common.{◌≡◌, ◌∙◌, ◌-◌, ◌^◌, not, nat_lt, rules, ◌&&◌}
+use Rattle.hk_num.specs.Numbers.{bvsub}
 use Rattle.hk_term.specs.Shape.{width}
 use Rattle.hk_term.specs.Meaning.{value}
 use Rattle.hk_symvalue.specs.Meaning.{is_true, differ}

@@ -1,5 +1,4 @@
-use Rattle.std.proofs.Common.{◌≡◌, ◌∙◌, ◌*◌, ◌^◌, ◌%◌, ◌<◌, nat_lt, subst, sym, rules, arith}
-use Rattle.hk_term.specs.Shape.{width}
+use Rattle.std.proofs.Common.{◌≡◌, ◌∙◌, ◌*◌, ◌^◌, ◌%◌, ◌<◌, subst, sym, rules}
 use Rattle.hk_term.specs.Meaning.{value}
 use Rattle.hk_symvalue.proofs.NumberLaws.{twice_wide, doubled}
 use Rattle.hk_symvalue.proofs.overflow.doubled_exceeds.Goals as goal

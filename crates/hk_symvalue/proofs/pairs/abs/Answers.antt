@@ -1,4 +1,4 @@
-use Rattle.std.proofs.Common.{◌≡◌, ◌≤◌, ◌<◌, ◌^◌, ◌&&◌, nat_eq, unsigned_abs, rules}
+use Rattle.std.proofs.Common.{◌≡◌, ◌&&◌, nat_eq, unsigned_abs, rules}
 use Rattle.hk_num.specs.Numbers.{signed_of}
 use Rattle.hk_term.specs.Shape.{width}
 use Rattle.hk_term.specs.Meaning.{value}

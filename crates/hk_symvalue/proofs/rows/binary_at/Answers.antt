@@ -1,4 +1,4 @@
-use Rattle.std.proofs.Common.{◌≡◌, ◌%◌, ◌^◌, false, rules}
+use Rattle.std.proofs.Common.{◌≡◌, ◌%◌, ◌^◌, rules}
 use Rattle.hk_term.specs.Shape.{width}
 use Rattle.hk_term.specs.Meaning.{value}
 use Rattle.ir_value.specs.Numbers.{binary_of}

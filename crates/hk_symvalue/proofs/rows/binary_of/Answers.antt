@@ -1,9 +1,8 @@
 use Rattle.std.proofs.Common.{◌≡◌, ◌||◌, rules}
 use Rattle.hk_term.specs.Shape.{width}
 use Rattle.hk_term.specs.Meaning.{value}
-use Rattle.ir_value.specs.Numbers.{of_numbers}
 use Rattle.hk_symvalue.specs.Meaning.{is_true, meaning}
-use Rattle.hk_symvalue.specs.Rows.{Shown, flagged, binary_sticks}
+use Rattle.hk_symvalue.specs.Rows.{flagged, binary_sticks}
 use Rattle.hk_symvalue.proofs.ValueLaws.{binary_answers}
 use Rattle.hk_symvalue.proofs.rows.binary_of.Goals as goal
 

@@ -1,4 +1,4 @@
-use Rattle.std.proofs.Common.{◌∙◌, ◌<◌, ◌^◌, subst, arith}
+use Rattle.std.proofs.Common.{◌∙◌}
 use Rattle.hk_symvalue.proofs.NumberLaws.{fits_wider}
 use Rattle.hk_symvalue.proofs.words.fits.Goals as goal
 

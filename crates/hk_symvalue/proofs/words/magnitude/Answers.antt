@@ -1,4 +1,4 @@
-use Rattle.std.proofs.Common.{◌≡◌, ◌-◌, ◌^◌, ◌%◌, ◌∙◌, not, nat_lt, subst, ◌<◌, ◌≤◌, rules}
+use Rattle.std.proofs.Common.{◌≡◌, ◌-◌, ◌^◌, ◌%◌, ◌∙◌, not, nat_lt, rules}
 use Rattle.hk_term.specs.Shape.{width}
 use Rattle.hk_term.specs.Meaning.{value}
 use Rattle.hk_symvalue.specs.Meaning.{is_true}
