@@ -1,5 +1,5 @@
 -- What stands for something at some kind stands for something at its own one, or at 64 bits where it has none.
-use Rattle.std.proofs.Common.{◌≡◌, ◌⊎◌, inl, inr, ℕ, zero, suc, ◌+◌, ◌-◌, ◌*◌, ◌^◌, ◌<◌, ◌≤◌, Bool, true, false, ◌&&◌, nat_lt, nat_le, Option, Some, None, List, [], ◌∷◌, ◌++◌, refl, sym, ◌∙◌, ap, subst, arith}
+use Rattle.std.proofs.Common.{◌≡◌, ◌⊎◌, inl, inr, ℕ, zero, suc, ◌-◌, ◌*◌, ◌^◌, ◌≤◌, Bool, true, false, ◌&&◌, nat_lt, Option, Some, None, List, ◌++◌, refl, sym, ◌∙◌, ap, subst, arith}
 use Rattle.std.specs.Prelude.{ℤ, pos, negsuc, neg_ℤ, int_le, int_lt, leb, option_map, option_and_then, if◌then◌else◌, position, bytes_eq, codes}
 use Rattle.std.proofs.lemmas.Bool.{cases_Bool, le-leb, leb-true, leb-false, lt-ltb, le-ltb}
 use Rattle.std.proofs.Math.Pow.{pow_mono}
@@ -17,11 +17,11 @@ use Rattle.spec_scope.specs.declared.meaning.Kind.{Kind}
 use Rattle.spec_scope.specs.declared.meaning.Kind.TheVariants.{Truth, Number}
 use Rattle.spec_scope.specs.declared.meaning.Meaning.{Meaning}
 use Rattle.spec_scope.specs.declared.meaning.Meaning.TheVariants.{Sort, Constant, Argument, Variable, Local, State, Kernel, Nothing}
-use Rattle.spec_scope.specs.Scope.{Scope, is_width, meaning, field_place, field_sort, leaf_at, leaf_of, first, own, meant_kind, class_kind, resize_kind, resized_kind}
+use Rattle.spec_scope.specs.Scope.{Scope, is_width, meaning, field_place, field_sort, leaf_at, first, own, meant_kind, class_kind, resize_kind, resized_kind}
 use Rattle.spec_scope.specs.Takes.{is_literal, fits_resize, is_sized, index_kind}
-use Rattle.spec_scope.specs.Taking.{chain, one, pair, same_kind, given_at, number_at, literal_at, bound_at, local_at, value_at, asked, resized_at, state_meant, kernel_meant, ReadOf, read_of, PathOf, path_of, Led, led_here, led_by, led_in, no_keys, index_at, sizes_of, take, take_truths, take_keys, lead}
+use Rattle.spec_scope.specs.Taking.{chain, one, pair, same_kind, given_at, number_at, literal_at, bound_at, value_at, asked, resized_at, state_meant, kernel_meant, ReadOf, read_of, PathOf, path_of, Led, led_here, led_by, led_in, no_keys, index_at, sizes_of, take, take_truths, take_keys, lead}
 use Rattle.spec_scope.proofs.Inferring.{same_is}
-use Rattle.spec_take.specs.Fitting.{Fits, IsFitting, Stands}
+use Rattle.spec_take.specs.Fitting.{IsFitting, Stands}
 
 abbrev Bound : Type 0
 Bound = List Name
