@@ -4,3 +4,4 @@ pub mod Asked
 pub mod Exits
 pub mod BehindLaws
 pub mod Tuples
+pub mod Widest

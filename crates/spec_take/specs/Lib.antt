@@ -3,3 +3,4 @@ pub mod Answers
 pub mod Asking
 pub mod Behind
 pub mod Found
+pub mod Fitting

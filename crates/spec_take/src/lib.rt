@@ -6,6 +6,7 @@
 
 mod asking;
 mod faults;
+mod fitting;
 mod found;
 mod kinds;
 mod leaf;
@@ -14,6 +15,7 @@ mod taken;
 mod widths;
 
 pub use faults::{faults_of, tuples_with};
+pub use fitting::fits_some;
 pub use found::Findings;
 pub use kinds::OwnKind;
 pub use taken::take;
