@@ -1,0 +1,5 @@
+mod Coding
+mod Shapes
+mod Telling
+mod Facts
+mod Parts
