@@ -16,5 +16,5 @@ mod widths;
 pub use faults::{faults_of, tuples_with};
 pub use found::Findings;
 pub use kinds::OwnKind;
-pub use taken::take;
+pub use taken::{indices, take};
 pub use widths::{first_of, own};
