@@ -1,5 +1,6 @@
 -- What a line makes of the names that may be used, for the lines behind it.
-use Rattle.std.specs.Prelude.{ℕ, ◌+◌, Bool, true, false, ◌&&◌, if◌then◌else◌, nat_le, Option, Some, None, option_map, List, [], ◌∷◌, ◌++◌, codes}
+use Rattle.std.specs.Prelude.{ℕ, ◌+◌, Bool, true, false, ◌&&◌, if◌then◌else◌, nat_le, Option, Some, None, option_map, List, [], ◌∷◌, ◌++◌, codes, slice_get}
+use Rattle.spec_ast.specs.declared.raw.RawSort.{RawSort}
 use Rattle.spec_ast.specs.Raw.{Tree, Item, Line, sort_line, constant_line, hook_line, class_line, field_line, def_line, var_line, let_line, copy_line, write_line, return_line, end_line}
 use Rattle.spec_tree.specs.declared.expr.StateName.TheVariants.{Old, New}
 use Rattle.spec_names.specs.Kernel.{Name, ValueType, number, address, Kernel, function_place, function_named}
@@ -59,11 +60,15 @@ width_of_type address = 0
 abbrev pub result_of : Option kernel.Function → Option ℕ
 result_of f = chain f (λ g. option_map width_of_type g.result)
 
+-- the parameter at a place behind the state, by the type that the kernel's function has there
+abbrev pub argument_meaning : ℕ → Option ValueType → Meaning
+argument_meaning k None = means.Nothing
+argument_meaning k (Some t) = means.Argument k (width_of_type t)
+
 -- the parameters of a handler behind its state, from this place on, by the types of the kernel's function
-abbrev pub arguments : Names → ℕ → List Name → List ValueType → Names
-arguments names k [] types = names
-arguments names k (x ∷ xs) [] = arguments (with_name names x means.Nothing) (k + 1) xs []
-arguments names k (x ∷ xs) (t ∷ types) = arguments (with_name names x (means.Argument k (width_of_type t))) (k + 1) xs types
+abbrev pub arguments : List ValueType → Names → ℕ → List Name → Names
+arguments types names k [] = names
+arguments types names k (x ∷ xs) = arguments types (with_name names x (argument_meaning k (slice_get types k))) (k + 1) xs
 
 abbrev pub types_of : Option kernel.Function → List ValueType
 types_of None = []
@@ -71,7 +76,7 @@ types_of (Some f) = f.parameters
 
 abbrev pub handler_names : List Name → List ValueType → Names
 handler_names [] types = []
-handler_names (x ∷ xs) types = arguments ((x, means.State Old) ∷ []) 0 xs types
+handler_names (x ∷ xs) types = arguments types ((x, means.State Old) ∷ []) 0 xs
 
 -- what the parameters mean
 abbrev pub parameter_names : Option Function → List Name → List ValueType → Names
@@ -110,9 +115,12 @@ top_behind s (class_line x) = with_name s.top x means.Nothing
 top_behind s (def_line x parameters) = with_name s.top x means.Nothing
 top_behind s _ = s.top
 
+abbrev pub named_top : Scope → Item → Scope
+named_top s item = record s { top = top_behind s item }
+
 -- a function ends with its return line, and where a line of the top stands
 abbrev pub at_top : Here → Item → Here
-at_top h item = record h { scope = record h.scope { top = top_behind h.scope item; inner = [] }; head = None }
+at_top h item = record h { scope = record (named_top h.scope item) { inner = [] }; head = None }
 
 abbrev pub with_inner : Here → Name → Meaning → Here
 with_inner h x m = record h { scope = record h.scope { inner = with_name h.scope.inner x m } }
@@ -120,34 +128,49 @@ with_inner h x m = record h { scope = record h.scope { inner = with_name h.scope
 abbrev pub with_once : List Name → Name → List Name
 with_once names x = if is_among x names then names else names ++ x ∷ []
 
--- behind the `def` of a function of this kind, with the kernel's function of its name
-abbrev pub in_body : Here → ℕ → Name → List Name → Option Function → Option kernel.Function → Here
-in_body h line x parameters kind f =
+abbrev pub at_class : Here → Item → Here
+at_class h item = record (at_top h item) { classes = h.classes + 1; class_names = [] }
+
+abbrev pub at_field : Here → Name → List RawSort → RawSort → Here
+at_field h x keys entry =
+    record h { class_names = with_once h.class_names x; entries = cut (h.entries + entries_of (field_sort_for h.scope keys entry)) }
+
+-- the function of the kernel by its name
+abbrev pub in_body : Here → ℕ → Name → List Name → Here
+in_body h line x parameters =
     record h {
-      scope = record h.scope { top = with_name h.scope.top x means.Nothing; inner = parameter_names kind parameters (types_of f) };
-      head = Some (record { line = line; name = x; kind = kind; place = function_place h.scope.kernel x });
-      result = result_of f;
+      scope = record h.scope {
+        top = with_name h.scope.top x means.Nothing;
+        inner = parameter_names (function_of x parameters) parameters (types_of (function_named h.scope.kernel x));
+      };
+      head = Some (record { line = line; name = x; kind = function_of x parameters; place = function_place h.scope.kernel x });
+      result = result_of (function_named h.scope.kernel x);
       lets = 0;
       copied = false;
-      handlers = h.handlers + one_handler kind;
+      handlers = h.handlers + one_handler (function_of x parameters);
     }
+
+abbrev pub lets_behind : ℕ → Bool → ℕ
+lets_behind n skipped = if skipped then n else n + 1
+
+abbrev pub at_let : Here → Name → Tree → Here
+at_let h x e =
+    record (with_inner h x (means.Local h.lets (let_kind h.scope e) (skips h e))) { lets = lets_behind h.lets (skips h e) }
 
 -- behind a line
 abbrev pub behind : Here → ℕ → Item → Here
 behind h line (sort_line x sort) = at_top h (sort_line x sort)
 behind h line (constant_line x n) = at_top h (constant_line x n)
 behind h line (hook_line x) = at_top h (hook_line x)
-behind h line (class_line x) = record (at_top h (class_line x)) { classes = h.classes + 1; class_names = [] }
-behind h line (field_line x keys sort) =
-    record h { class_names = with_once h.class_names x; entries = cut (h.entries + entries_of (field_sort_for h.scope keys sort)) }
-behind h line (def_line x parameters) = in_body h line x parameters (function_of x parameters) (function_named h.scope.kernel x)
+behind h line (class_line x) = at_class h (class_line x)
+behind h line (field_line x keys entry) = at_field h x keys entry
+behind h line (def_line x parameters) = in_body h line x parameters
 behind h line (var_line x sort) = with_inner h x (variable_meaning (key_for h.scope sort))
-behind h line (let_line x e) =
-    record (with_inner h x (means.Local h.lets (let_kind h.scope e) (skips h e))) { lets = if skips h e then h.lets else h.lets + 1 }
+behind h line (let_line x e) = at_let h x e
 behind h line (copy_line x o) = record (with_inner h x (means.State New)) { copied = true }
+behind h line (write_line c f at e) = h
 behind h line (return_line e) = record h { head = None }
 behind h line (end_line e c r) = record h { head = None }
-behind h line (write_line c f at e) = h
 
 -- ---- the fields of the text
 
@@ -164,17 +187,17 @@ abbrev pub is_one : ℕ → Bool
 is_one n = nat_le n 1 && nat_le 1 n
 
 -- a field of the first class, by the sorts on the lines before it
-abbrev pub fields_behind : Fore → ℕ → Item → List Declared
-fields_behind f line (field_line x keys sort) =
-    if is_one f.classes then with_field f.scope.fields (record { line = line; name = x; sort = field_sort_for f.scope keys sort }) else f.scope.fields
-fields_behind f line _ = f.scope.fields
+abbrev pub with_declared : Fore → ℕ → Name → List RawSort → RawSort → Fore
+with_declared f line x keys entry =
+    if is_one f.classes
+    then record f {
+      scope = record f.scope { fields = with_field f.scope.fields (record { line = line; name = x; sort = field_sort_for f.scope keys entry }) };
+    }
+    else f
 
 abbrev pub fore_behind : Fore → ℕ → Item → Fore
-fore_behind f line item =
-    record {
-      scope = record f.scope { fields = fields_behind f line item; top = top_behind f.scope item };
-      classes = classes_behind f.classes item;
-    }
+fore_behind f line (field_line x keys entry) = with_declared f line x keys entry
+fore_behind f line item = record { scope = named_top f.scope item; classes = classes_behind f.classes item }
 
 abbrev pub fore_from : Fore → List Line → Fore
 fore_from f [] = f

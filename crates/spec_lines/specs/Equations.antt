@@ -56,10 +56,13 @@ abbrev pub is_argument : Scope → Key → Tree → Bool
 is_argument s key (named x) = is_key key (meaning s x)
 is_argument s key _ = false
 
+abbrev pub are_no_arguments : List Tree → Bool
+are_no_arguments [] = true
+are_no_arguments (e ∷ es) = false
+
 -- one for each key
 abbrev pub are_arguments : Scope → List Key → List Tree → Bool
-are_arguments s [] [] = true
-are_arguments s [] (e ∷ es) = false
+are_arguments s [] es = are_no_arguments es
 are_arguments s (key ∷ keys) [] = false
 are_arguments s (key ∷ keys) (e ∷ es) = is_argument s key e && are_arguments s keys es
 

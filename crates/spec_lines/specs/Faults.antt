@@ -17,12 +17,12 @@ use Rattle.spec_read.specs.Places.{function_of}
 use Rattle.spec_scope.specs.declared.meaning.Kind.{Kind}
 use Rattle.spec_scope.specs.declared.meaning.Kind.TheVariants.{Truth, Number}
 use Rattle.spec_scope.specs.declared.meaning.Meaning.{Meaning}
-use Rattle.spec_scope.specs.declared.meaning.Meaning.TheVariants.{State}
+use Rattle.spec_scope.specs.declared.meaning.Meaning.TheVariants.{Sort, State}
 use Rattle.spec_scope.specs.Scope.{Names, meaning_of, is_among, Scope, meaning, field_place, field_sort, own}
 use Rattle.spec_scope.specs.Takes.{index_kind}
 use Rattle.spec_scope.specs.Taking.{chain, one, take, take_keys, no_keys}
 use Rattle.spec_scope.specs.Tests.{somewhere, is_unknown, is_state, are_new, is_rebound, is_no_leaf, is_wide}
-use Rattle.spec_lines.specs.Sorts.{sort_meant, sort_for, key_for, field_sort_for, entries_of}
+use Rattle.spec_lines.specs.Sorts.{sort_for, key_for, field_sort_for, entries_of}
 use Rattle.spec_lines.specs.Behind.{Here, kind_of, is_equivalence, is_handler, let_kind}
 use Rattle.spec_lines.specs.Equations.{Equation, is_old, conjuncts, equation_in, key_names, equated_by, is_once}
 
@@ -42,8 +42,12 @@ abbrev pub is_new : Option Meaning → Bool
 is_new (Some (State New)) = true
 is_new _ = false
 
+abbrev pub is_no_sort : Option Meaning → Bool
+is_no_sort (Some (Sort sort)) = false
+is_no_sort _ = true
+
 abbrev pub names_no_sort : Scope → RawSort → Bool
-names_no_sort s (Named x) = is_none (sort_meant (meaning s x))
+names_no_sort s (Named x) = is_no_sort (meaning s x)
 names_no_sort s _ = false
 
 abbrev pub is_unknown_line : Scope → Item → Bool
@@ -64,13 +68,16 @@ is_s5 h item = is_unknown_line h.scope item || on_line (is_unknown h.scope) item
 abbrev pub is_taken : Names → Name → Bool
 is_taken names x = is_some (meaning_of names x)
 
+abbrev pub is_second_def : Names → Name → List Name → Bool
+is_second_def names x parameters = is_taken names x || not (are_new [] parameters)
+
 abbrev pub is_second : Here → Item → Bool
 is_second h (sort_line x sort) = is_taken h.scope.top x
 is_second h (constant_line x n) = is_taken h.scope.top x
 is_second h (hook_line x) = is_taken h.scope.top x
 is_second h (class_line x) = is_taken h.scope.top x || nat_lt 0 h.classes
 is_second h (field_line x keys sort) = is_among x h.class_names
-is_second h (def_line x parameters) = is_taken h.scope.top x || not (are_new [] parameters)
+is_second h (def_line x parameters) = is_second_def h.scope.top x parameters
 is_second h (var_line x sort) = is_taken h.scope.inner x
 is_second h (let_line x e) = is_taken h.scope.inner x
 is_second h (copy_line x o) = is_taken h.scope.inner x || h.copied
@@ -159,9 +166,12 @@ is_s7 h item = not (is_s8 h item) && not (fits_line h item)
 
 -- ---- at a field: not exactly one equation; at the return line of the equivalence function: a conjunct that is no equation
 
+abbrev pub is_no_equation : Here → Tree → Bool
+is_no_equation h e = is_equivalence (kind_of h.head) && list_any is_none (equated_by h.scope (conjuncts e))
+
 abbrev pub is_s9 : Text → Here → Item → Bool
 is_s9 t h (field_line x keys sort) = not (is_once (field_place h.scope x) t.equated)
-is_s9 t h (return_line e) = is_equivalence (kind_of h.head) && list_any is_none (equated_by h.scope (conjuncts e))
+is_s9 t h (return_line e) = is_no_equation h e
 is_s9 t h _ = false
 
 -- ---- the `def` of a handler: no function with a body has its name and so many parameters

@@ -1,7 +1,7 @@
 -- The specification that raw lines stand for, and the first line that fails.
 use Rattle.std.specs.Prelude.{◌≡◌, ℕ, Bool, true, false, if◌then◌else◌, Option, Some, None, List, [], ◌∷◌, ◌++◌, map}
 use Rattle.spec_ast.specs.declared.fault.SpecReason.{SpecReason}
-use Rattle.spec_ast.specs.Raw.{Tree, Item, Line, hook_line, def_line, let_line, write_line, return_line, end_line}
+use Rattle.spec_ast.specs.Raw.{Tree, Trees, Item, Line, hook_line, def_line, let_line, write_line, return_line, end_line}
 use Rattle.spec_tree.specs.Plain as tree
 use Rattle.spec_tree.specs.Plain.{Field, Named, Transition, Spec}
 use Rattle.spec_tree.specs.Sorted.{FieldSort}
@@ -80,10 +80,13 @@ abbrev pub with_let : Bool → Made → tree.Tree → Made
 with_let true m y = record m { lines = m.lines ++ tree.let_line y ∷ [] }
 with_let false m y = record m { locals = m.locals ++ y ∷ [] }
 
+-- one that has no place adds nothing
+abbrev pub put_let : Bool → Bool → Made → tree.Tree → Made
+put_let skipped handler m y = if skipped then m else with_let handler m y
+
 abbrev pub let_made : Here → Made → Tree → Option Made
 let_made h m e =
-    if skips h e then Some m
-    else chain (let_kind h.scope e) (λ kind. one (with_let (is_handler (kind_of h.head)) m) (take h.scope [] kind e))
+    chain (let_kind h.scope e) (λ kind. one (put_let (skips h e) (is_handler (kind_of h.head)) m) (take h.scope [] kind e))
 
 abbrev pub field_with : Declared → tree.Tree → FieldSort → Field
 field_with d y sort = record { line = d.line; name = d.name; keys = sort.keys; width = sort.width; value = y }
@@ -100,19 +103,34 @@ fields_from fs (d ∷ ds) (y ∷ values) = chain (field_made d y) (λ f. fields_
 
 -- behind the return line of the equivalence function
 abbrev pub equivalence_made : Scope → Made → Values → Made
-equivalence_made s m values = record m { fields = fields_from [] s.fields values; equation_locals = m.locals }
+equivalence_made s m values = record m { fields = fields_from [] s.fields values; equation_locals = m.locals; locals = [] }
 
 abbrev pub named_with : Name → Made → tree.Tree → Named
 named_with x m y = record { name = x; locals = m.locals; value = y }
 
+abbrev pub with_invariant : Name → Made → tree.Tree → Made
+with_invariant x m y = record m { invariants = m.invariants ++ named_with x m y ∷ []; locals = [] }
+
+abbrev pub with_property : Name → Made → tree.Tree → Made
+with_property x m y = record m { properties = m.properties ++ named_with x m y ∷ []; locals = [] }
+
 abbrev pub return_made : Option Function → Scope → Made → Tree → Option Made
 return_made (Some equivalence) s m e = one (equivalence_made s m) (values_of s e)
-return_made (Some (invariant x)) s m e = one (λ y. record m { invariants = m.invariants ++ named_with x m y ∷ [] }) (take s [] Truth e)
-return_made (Some (property x)) s m e = one (λ y. record m { properties = m.properties ++ named_with x m y ∷ [] }) (take s [] Truth e)
+return_made (Some (invariant x)) s m e = one (with_invariant x m) (take s [] Truth e)
+return_made (Some (property x)) s m e = one (with_property x m) (take s [] Truth e)
 return_made _ s m e = one (λ y. m) (take s [] Truth e)
 
-abbrev pub write_made : Scope → Made → Name → tree.Trees → tree.Tree → Option Made
-write_made s m f at y = one (λ place. record m { lines = m.lines ++ tree.write_line place at y ∷ [] }) (field_place s f)
+abbrev pub write_at : Option ℕ → Made → tree.Trees → tree.Tree → Option Made
+write_at None m at y = None
+write_at (Some place) m at y = Some (record m { lines = m.lines ++ tree.write_line place at y ∷ [] })
+
+-- a write to a field of this sort
+abbrev pub sorted_write : Scope → Made → Name → Option Trees → Tree → FieldSort → Option Made
+sorted_write s m f at e sort =
+    chain (written_at s sort.keys at) (λ xs. chain (take s [] (Number sort.width) e) (λ y. write_at (field_place s f) m xs y))
+
+abbrev pub written : Scope → Made → Name → Option Trees → Tree → Option Made
+written s m f at e = chain (field_sort s f) (sorted_write s m f at e)
 
 abbrev pub result_made : Here → Option Tree → Option (Option tree.Tree)
 result_made h None = Some None
@@ -122,14 +140,14 @@ abbrev pub result_width : Option ℕ → ℕ
 result_width None = 0
 result_width (Some w) = w
 
-abbrev pub transition_with : Here → Made → Name → Head → ℕ → tree.Tree → Option tree.Tree → Transition
-transition_with h m c head place valid result =
+abbrev pub transition_with : Here → List tree.Line → Name → Head → ℕ → tree.Tree → Option tree.Tree → Transition
+transition_with h lines c head place valid result =
     record {
       line = head.line;
       name = head.name;
       function = place;
       widths = map width_of_type (types_of (function_named h.scope.kernel head.name));
-      lines = m.lines;
+      lines = lines;
       valid = valid;
       returns_new = is_new (meaning h.scope c);
       result = result;
@@ -140,7 +158,7 @@ transition_with h m c head place valid result =
 abbrev pub head_made : Here → Made → Name → tree.Tree → Option tree.Tree → Head → Option ℕ → Made
 head_made h m c valid result head None = m
 head_made h m c valid result head (Some place) =
-    if is_handler head.kind then record m { transitions = m.transitions ++ transition_with h m c head place valid result ∷ [] } else m
+    if is_handler head.kind then record m { transitions = m.transitions ++ transition_with h m.lines c head place valid result ∷ []; lines = [] } else m
 
 abbrev pub end_made : Here → Made → Name → tree.Tree → Option tree.Tree → Option Head → Made
 end_made h m c valid result None = m
@@ -150,9 +168,7 @@ end_made h m c valid result (Some head) = head_made h m c valid result head head
 abbrev pub made_behind : Here → Made → Item → Option Made
 made_behind h m (def_line x parameters) = Some (record m { locals = []; lines = [] })
 made_behind h m (let_line x e) = let_made h m e
-made_behind h m (write_line c f at e) =
-    chain (field_sort h.scope f)
-    (λ sort. chain (pair (written_at h.scope sort.keys at) (take h.scope [] (Number sort.width) e)) (λ p. write_made h.scope m f p.0 p.1))
+made_behind h m (write_line c f at e) = written h.scope m f at e
 made_behind h m (return_line e) = return_made (kind_of h.head) h.scope m e
 made_behind h m (end_line e c r) = chain (pair (take h.scope [] Truth e) (result_made h r)) (λ p. Some (end_made h m c p.0 p.1 h.head))
 made_behind h m _ = Some m
