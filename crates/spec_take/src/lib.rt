@@ -18,5 +18,5 @@ pub use faults::{faults_of, tuples_with};
 pub use fitting::fits_some;
 pub use found::Findings;
 pub use kinds::OwnKind;
-pub use taken::take;
+pub use taken::{indices, take};
 pub use widths::{first_of, own};

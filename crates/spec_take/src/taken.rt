@@ -205,7 +205,7 @@ fn first_key(keys: &[Sort]) -> Option<(u32, &[Sort])>
 /// One index for each key.
 #[tactic(auto, using(crate::proofs::BehindLaws::keys_law))]
 #[cycle(take)]
-fn indices<'e>(
+pub fn indices<'e>(
     alloc: Global,
     scope: &Scope<'_>,
     bound: &mut BoundNames<'e>,

@@ -1,0 +1,8 @@
+mod Prefixes
+mod Cutting
+mod Rows
+mod Heads
+mod Trees
+mod Finding
+mod Results
+mod Texts

@@ -1,0 +1,245 @@
+-- Why a line is refused: each reason as one test of a line, where it stands and in its text.
+use Rattle.std.specs.Prelude.{ℕ, ◌+◌, ◌-◌, ◌^◌, Bool, true, false, not, ◌&&◌, ◌||◌, if◌then◌else◌, nat_lt, nat_le, Option, Some, None, is_some, is_none, List, [], ◌∷◌, length, replicate, slice_set}
+use Rattle.std.specs.List.{list_any}
+use Rattle.spec_ast.specs.declared.raw.RawSort.{RawSort}
+use Rattle.spec_ast.specs.declared.raw.RawSort.TheVariants.{Named}
+use Rattle.spec_ast.specs.declared.fault.SpecReason.{SpecReason}
+use Rattle.spec_ast.specs.declared.fault.SpecReason.TheVariants.{S5, S6, S7, S8, S9, S10, S11, S12, S13, S14, S15}
+use Rattle.spec_ast.specs.Raw.{Tree, Trees, Item, sort_line, constant_line, hook_line, class_line, field_line, def_line, var_line, let_line, copy_line, write_line, return_line, end_line}
+use Rattle.spec_ast.specs.Depth.{trees_on}
+use Rattle.spec_tree.specs.declared.expr.StateName.TheVariants.{New}
+use Rattle.spec_tree.specs.Plain as tree
+use Rattle.spec_tree.specs.Plain.{Key}
+use Rattle.spec_tree.specs.Sorted.{FieldSort}
+use Rattle.spec_names.specs.Kernel.{Name, function_named}
+use Rattle.spec_kernel.specs.Handlers.{has_body_with, has_address, is_void_declared}
+use Rattle.spec_read.specs.Places.{function_of}
+use Rattle.spec_scope.specs.declared.meaning.Kind.{Kind}
+use Rattle.spec_scope.specs.declared.meaning.Kind.TheVariants.{Truth, Number}
+use Rattle.spec_scope.specs.declared.meaning.Meaning.{Meaning}
+use Rattle.spec_scope.specs.declared.meaning.Meaning.TheVariants.{Sort, State}
+use Rattle.spec_scope.specs.Scope.{Names, meaning_of, is_among, Scope, meaning, field_place, field_sort, own}
+use Rattle.spec_scope.specs.Takes.{index_kind}
+use Rattle.spec_scope.specs.Taking.{chain, one, take, take_keys, no_keys}
+use Rattle.spec_scope.specs.Tests.{somewhere, is_unknown, is_state, are_new, is_rebound, is_no_leaf, is_wide}
+use Rattle.spec_lines.specs.Sorts.{sort_for, key_for, field_sort_for, entries_of}
+use Rattle.spec_lines.specs.Behind.{Here, kind_of, is_equivalence, is_handler, let_kind}
+use Rattle.spec_lines.specs.Equations.{Equation, is_old, conjuncts, equation_in, key_names, equated_by, is_once}
+
+-- what the faults of a line depend on beside where it stands: which functions come to a declared one that is neither a listed intrinsic
+-- nor a hook of the text; and for each conjunct of the equivalence function the field that it is an equation of, by its place
+pub record Text : Type 0 where
+  pub strays : Name → Bool
+  pub equated : List (Option ℕ)
+
+-- a test of an expression's parts holds somewhere on the line
+abbrev pub on_line : (List Name → Tree → Bool) → Item → Bool
+on_line test item = list_any (somewhere test []) (trees_on item)
+
+-- ---- an unknown name, or one that is not what its place asks for
+
+abbrev pub is_new : Option Meaning → Bool
+is_new (Some (State New)) = true
+is_new _ = false
+
+abbrev pub is_no_sort : Option Meaning → Bool
+is_no_sort (Some (Sort sort)) = false
+is_no_sort _ = true
+
+abbrev pub names_no_sort : Scope → RawSort → Bool
+names_no_sort s (Named x) = is_no_sort (meaning s x)
+names_no_sort s _ = false
+
+abbrev pub is_unknown_line : Scope → Item → Bool
+is_unknown_line s (sort_line x sort) = names_no_sort s sort
+is_unknown_line s (field_line x keys sort) = list_any (names_no_sort s) keys || names_no_sort s sort
+is_unknown_line s (var_line x sort) = names_no_sort s sort
+is_unknown_line s (hook_line x) = not (is_void_declared (function_named s.kernel x))
+is_unknown_line s (copy_line x o) = not (is_old (meaning s o))
+is_unknown_line s (write_line c f at e) = not (is_new (meaning s c)) || is_none (field_place s f)
+is_unknown_line s (end_line e c r) = not (is_state (meaning s c))
+is_unknown_line s _ = false
+
+abbrev pub is_s5 : Here → Item → Bool
+is_s5 h item = is_unknown_line h.scope item || on_line (is_unknown h.scope) item
+
+-- ---- a name that is defined twice, a second class, a second copy line, a variable that is bound already
+
+abbrev pub is_taken : Names → Name → Bool
+is_taken names x = is_some (meaning_of names x)
+
+abbrev pub is_second_def : Names → Name → List Name → Bool
+is_second_def names x parameters = is_taken names x || not (are_new [] parameters)
+
+abbrev pub is_second : Here → Item → Bool
+is_second h (sort_line x sort) = is_taken h.scope.top x
+is_second h (constant_line x n) = is_taken h.scope.top x
+is_second h (hook_line x) = is_taken h.scope.top x
+is_second h (class_line x) = is_taken h.scope.top x || nat_lt 0 h.classes
+is_second h (field_line x keys sort) = is_among x h.class_names
+is_second h (def_line x parameters) = is_second_def h.scope.top x parameters
+is_second h (var_line x sort) = is_taken h.scope.inner x
+is_second h (let_line x e) = is_taken h.scope.inner x
+is_second h (copy_line x o) = is_taken h.scope.inner x || h.copied
+is_second h _ = false
+
+abbrev pub is_s6 : Here → Item → Bool
+is_s6 h item = is_second h item || on_line is_rebound item
+
+-- ---- a kernel path that is no integer leaf
+
+abbrev pub is_s8 : Here → Item → Bool
+is_s8 h item = on_line (is_no_leaf h.scope) item
+
+-- ---- a width or sort that does not fit
+
+abbrev pub fits : Scope → List Name → Kind → Tree → Bool
+fits s b kind e = is_some (take s b kind e)
+
+-- an expression fits the place that a local name has
+abbrev pub fits_let : Scope → Option Kind → Tree → Bool
+fits_let s None e = false
+fits_let s (Some kind) e = fits s [] kind e
+
+-- the indices of a write, one for each key
+abbrev pub written_at : Scope → List Key → Option Trees → Option tree.Trees
+written_at s keys None = no_keys keys tree.no_trees
+written_at s keys (Some es) = take_keys s [] keys es
+
+abbrev pub fits_write : Scope → Option FieldSort → Option Trees → Tree → Bool
+fits_write s None at e = false
+fits_write s (Some sort) at e = is_some (written_at s sort.keys at) && fits s [] (Number sort.width) e
+
+-- the kind that the place of a handler's result asks for: in a void handler the result's own, or 64 bits
+abbrev pub result_kind : Scope → Option ℕ → Tree → Kind
+result_kind s None r = index_kind (own s r)
+result_kind s (Some w) r = Number w
+
+abbrev pub fits_result : Scope → Option ℕ → Option Tree → Bool
+fits_result s w None = true
+fits_result s w (Some r) = fits s [] (result_kind s w r) r
+
+abbrev pub width_in : Option FieldSort → ℕ
+width_in None = 0
+width_in (Some sort) = sort.width
+
+-- the values of fields, by their places
+abbrev pub Values : Type 0
+Values = List (Option tree.Tree)
+
+abbrev pub put_value : Option ℕ → Values → tree.Tree → Values
+put_value None values y = values
+put_value (Some place) values y = slice_set values place (Some y)
+
+-- with the value that a conjunct gives: the right side of an equation, at the width of its field, over the field's keys; a conjunct that is
+-- no equation is a truth
+abbrev pub value_put : Scope → Values → Tree → Option Equation → Option Values
+value_put s values e None = one (λ y. values) (take s [] Truth e)
+value_put s values e (Some q) =
+    one (put_value (field_place s q.field) values) (take s (key_names q) (Number (width_in (field_sort s q.field))) q.right)
+
+abbrev pub values_from : Scope → Values → List Tree → Option Values
+values_from s values [] = Some values
+values_from s values (e ∷ es) = chain (value_put s values e (equation_in s e)) (λ vs. values_from s vs es)
+
+-- the values that the equivalence function gives
+abbrev pub values_of : Scope → Tree → Option Values
+values_of s e = values_from s (replicate (length s.fields) None) (conjuncts e)
+
+abbrev pub fits_return : Here → Tree → Bool
+fits_return h e = if is_equivalence (kind_of h.head) then is_some (values_of h.scope e) else fits h.scope [] Truth e
+
+-- every sort is within its limits, and every expression fits its place
+abbrev pub fits_line : Here → Item → Bool
+fits_line h (sort_line x sort) = is_some (sort_for h.scope sort)
+fits_line h (field_line x keys sort) = is_some (field_sort_for h.scope keys sort)
+fits_line h (var_line x sort) = is_some (key_for h.scope sort)
+fits_line h (let_line x e) = fits_let h.scope (let_kind h.scope e) e
+fits_line h (write_line c f at e) = fits_write h.scope (field_sort h.scope f) at e
+fits_line h (return_line e) = fits_return h e
+fits_line h (end_line e c r) = fits h.scope [] Truth e && fits_result h.scope h.result r
+fits_line h _ = true
+
+-- it is not tried on a line with a path that is no integer leaf
+abbrev pub is_s7 : Here → Item → Bool
+is_s7 h item = not (is_s8 h item) && not (fits_line h item)
+
+-- ---- at a field: not exactly one equation; at the return line of the equivalence function: a conjunct that is no equation
+
+abbrev pub is_no_equation : Here → Tree → Bool
+is_no_equation h e = is_equivalence (kind_of h.head) && list_any is_none (equated_by h.scope (conjuncts e))
+
+abbrev pub is_s9 : Text → Here → Item → Bool
+is_s9 t h (field_line x keys sort) = not (is_once (field_place h.scope x) t.equated)
+is_s9 t h (return_line e) = is_no_equation h e
+is_s9 t h _ = false
+
+-- ---- the `def` of a handler: no function with a body has its name and so many parameters
+
+abbrev pub is_handler_def : Item → Bool
+is_handler_def (def_line x parameters) = is_handler (function_of x parameters)
+is_handler_def _ = false
+
+abbrev pub is_s10 : Here → Item → Bool
+is_s10 h (def_line x parameters) =
+    is_handler (function_of x parameters) && not (has_body_with (length parameters - 1) (function_named h.scope.kernel x))
+is_s10 h _ = false
+
+-- ---- a result of a void handler
+
+abbrev pub is_s11 : Here → Item → Bool
+is_s11 h (end_line e c r) = is_some r && is_none h.result
+is_s11 h _ = false
+
+-- ---- a nest of quantifiers or a field of more than 2^20 index tuples, or more than 2^22 entries of all fields so far
+
+abbrev pub is_large : ℕ → ℕ → Bool
+is_large before entries = nat_lt (2 ^ 20) entries || nat_lt (2 ^ 22) (before + entries)
+
+abbrev pub is_large_line : Here → Item → Bool
+is_large_line h (field_line x keys sort) = is_large h.entries (entries_of (field_sort_for h.scope keys sort))
+is_large_line h _ = false
+
+abbrev pub is_s12 : Here → Item → Bool
+is_s12 h item = is_large_line h item || on_line (is_wide h.scope) item
+
+-- ---- the `def` of a handler: there are 256 before it; its function has a pointer among its parameters or as its result; it comes to a
+-- declared function that is neither a listed intrinsic nor a hook
+
+abbrev pub is_s13 : Here → Item → Bool
+is_s13 h item = is_handler_def item && nat_le 256 h.handlers
+
+abbrev pub is_s14 : Here → Item → Bool
+is_s14 h (def_line x parameters) = is_handler (function_of x parameters) && has_address (function_named h.scope.kernel x)
+is_s14 h _ = false
+
+abbrev pub is_s15 : Text → Item → Bool
+is_s15 t (def_line x parameters) = is_handler (function_of x parameters) && t.strays x
+is_s15 t _ = false
+
+-- ---- the least reason of a line
+
+abbrev pub falls : Text → Here → Item → SpecReason → Bool
+falls t h item S5 = is_s5 h item
+falls t h item S6 = is_s6 h item
+falls t h item S7 = is_s7 h item
+falls t h item S8 = is_s8 h item
+falls t h item S9 = is_s9 t h item
+falls t h item S10 = is_s10 h item
+falls t h item S11 = is_s11 h item
+falls t h item S12 = is_s12 h item
+falls t h item S13 = is_s13 h item
+falls t h item S14 = is_s14 h item
+falls t h item S15 = is_s15 t item
+falls t h item _ = false
+
+-- the first of these reasons that holds
+abbrev pub least_of : (SpecReason → Bool) → List SpecReason → Option SpecReason
+least_of holds [] = None
+least_of holds (r ∷ rs) = if holds r then Some r else least_of holds rs
+
+abbrev pub reasons : List SpecReason
+reasons = S5 ∷ S6 ∷ S7 ∷ S8 ∷ S9 ∷ S10 ∷ S11 ∷ S12 ∷ S13 ∷ S14 ∷ S15 ∷ []
+
+abbrev pub fault_of : Text → Here → Item → Option SpecReason
+fault_of t h item = least_of (falls t h item) reasons

@@ -1,0 +1,29 @@
+-- What the code keeps of a specification that is being made means.
+use Rattle.std.specs.Prelude.{◌≡◌, Option, Some, option_map, List, map, Result, Ok, Err}
+use Rattle.spec_tree.specs.Plain as tree
+use Rattle.spec_tree.specs.View.{view_expr, view_field, view_named, view_transition, view_line}
+use Rattle.spec_tree.specs.declared.expr.Expr.{Expr}
+use Rattle.spec_scope.specs.declared.typed.TakeStop.{TakeStop}
+use Rattle.spec_take.specs.Answers.{Fails}
+use Rattle.spec_lines.specs.Whole as plain
+use Rattle.spec_lines.specs.declared.made.Made.{Made}
+
+abbrev pub view_values : List (Option Expr) → List (Option tree.Tree)
+view_values values = map (option_map view_expr) values
+
+abbrev pub view_made : Made → plain.Made
+view_made m =
+    record {
+      fields = option_map (λ fs. map view_field fs.items) m.fields;
+      equation_locals = map view_expr m.equation_locals.items;
+      invariants = map view_named m.invariants.items;
+      properties = map view_named m.properties.items;
+      transitions = map view_transition m.transitions.items;
+      locals = map view_expr m.locals.items;
+      lines = map view_line m.lines.items;
+    }
+
+-- a line is done and gives this, or it does not fit, and gives nothing
+abbrev pub Makes : {A : Type 0} → Result A TakeStop → plain.Made → Option plain.Made → Type 0
+Makes (Ok done) made o = o ≡ Some made
+Makes (Err why) made o = Fails why o

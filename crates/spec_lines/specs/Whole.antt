@@ -1,0 +1,196 @@
+-- The specification that raw lines stand for, and the first line that fails.
+use Rattle.std.specs.Prelude.{◌≡◌, ℕ, Bool, true, false, if◌then◌else◌, Option, Some, None, List, [], ◌∷◌, ◌++◌, map}
+use Rattle.spec_ast.specs.declared.fault.SpecReason.{SpecReason}
+use Rattle.spec_ast.specs.Raw.{Tree, Trees, Item, Line, hook_line, def_line, let_line, write_line, return_line, end_line}
+use Rattle.spec_tree.specs.Plain as tree
+use Rattle.spec_tree.specs.Plain.{Field, Named, Transition, Spec}
+use Rattle.spec_tree.specs.Sorted.{FieldSort}
+use Rattle.spec_names.specs.Kernel.{Name, Kernel, function_named}
+use Rattle.spec_kernel.specs.Strays.{ReachesStray}
+use Rattle.spec_read.specs.Places.{Function, equivalence, invariant, property}
+use Rattle.spec_scope.specs.declared.meaning.Kind.TheVariants.{Truth, Number}
+use Rattle.spec_scope.specs.Scope.{Declared, Scope, meaning, field_place, field_sort}
+use Rattle.spec_scope.specs.Taking.{chain, one, pair, take}
+use Rattle.spec_lines.specs.Behind.{Head, Here, kind_of, is_equivalence, is_handler, width_of_type, types_of, let_kind, skips, behind, begin}
+use Rattle.spec_lines.specs.Equations.{conjuncts, equated_by}
+use Rattle.spec_lines.specs.Faults.{Text, is_new, written_at, result_kind, Values, values_of, fault_of}
+
+-- ---- the text
+
+abbrev pub with_hook : List Name → Item → List Name
+with_hook hooks (hook_line x) = hooks ++ x ∷ []
+with_hook hooks _ = hooks
+
+-- these hooks, and then those of the lines
+abbrev pub hooks_from : List Name → List Line → List Name
+hooks_from hooks [] = hooks
+hooks_from hooks (l ∷ ls) = hooks_from (with_hook hooks l.item) ls
+
+abbrev pub hooks_of : List Line → List Name
+hooks_of raw = hooks_from [] raw
+
+-- which functions of the kernel come to a declared one that is neither a listed intrinsic nor a hook
+pub record AreStrays (k : Kernel) (hooks : List Name) (strays : Name → Bool) : Type 0 where
+  pub told : (f : Name) → strays f ≡ true → ReachesStray k hooks f
+  pub all : (f : Name) → ReachesStray k hooks f → strays f ≡ true
+
+-- what the return line of the first equivalence function equates
+abbrev pub equated_at : Here → Item → List (Option ℕ) → List (Option ℕ)
+equated_at h (return_line e) others = if is_equivalence (kind_of h.head) then equated_by h.scope (conjuncts e) else others
+equated_at h _ others = others
+
+abbrev pub equated_from : Here → List Line → List (Option ℕ)
+equated_from h [] = []
+equated_from h (l ∷ ls) = equated_at h l.item (equated_from (behind h l.line l.item) ls)
+
+abbrev pub text_of : (Name → Bool) → Kernel → List Line → Text
+text_of strays k raw = record { strays = strays; equated = equated_from (begin k raw) raw }
+
+-- ---- the first line that fails
+
+abbrev pub first_of : ℕ → Option SpecReason → Option (ℕ × SpecReason) → Option (ℕ × SpecReason)
+first_of line None later = later
+first_of line (Some reason) later = Some (line, reason)
+
+abbrev pub first_from : Text → Here → List Line → Option (ℕ × SpecReason)
+first_from t h [] = None
+first_from t h (l ∷ ls) = first_of l.line (fault_of t h l.item) (first_from t (behind h l.line l.item) ls)
+
+-- the first line that falls under a reason, with the least of its reasons, where these functions come to strays
+abbrev pub first_fault : (Name → Bool) → Kernel → List Line → Option (ℕ × SpecReason)
+first_fault strays k raw = first_from (text_of strays k raw) (begin k raw) raw
+
+-- ---- what a line adds
+
+-- of the lines before a line: the parts of the specification, and of the function that goes on its local names or its lines
+pub record Made : Type 0 where
+  pub fields : Option (List Field)
+  pub equation_locals : List tree.Tree
+  pub invariants : List Named
+  pub properties : List Named
+  pub transitions : List Transition
+  pub locals : List tree.Tree
+  pub lines : List tree.Line
+
+abbrev pub nothing_made : Made
+nothing_made = record { fields = Some []; equation_locals = []; invariants = []; properties = []; transitions = []; locals = []; lines = [] }
+
+-- a local name is a line of a transition, and one of the local names of any other function
+abbrev pub with_let : Bool → Made → tree.Tree → Made
+with_let true m y = record m { lines = m.lines ++ tree.let_line y ∷ [] }
+with_let false m y = record m { locals = m.locals ++ y ∷ [] }
+
+-- one that has no place adds nothing
+abbrev pub put_let : Bool → Bool → Made → tree.Tree → Made
+put_let skipped handler m y = if skipped then m else with_let handler m y
+
+abbrev pub let_made : Here → Made → Tree → Option Made
+let_made h m e =
+    chain (let_kind h.scope e) (λ kind. one (put_let (skips h e) (is_handler (kind_of h.head)) m) (take h.scope [] kind e))
+
+abbrev pub field_with : Declared → tree.Tree → FieldSort → Field
+field_with d y sort = record { line = d.line; name = d.name; keys = sort.keys; width = sort.width; value = y }
+
+abbrev pub field_made : Declared → Option tree.Tree → Option Field
+field_made d None = None
+field_made d (Some y) = one (field_with d y) d.sort
+
+-- these fields, and then those that are declared, each with its value
+abbrev pub fields_from : List Field → List Declared → Values → Option (List Field)
+fields_from fs [] values = Some fs
+fields_from fs (d ∷ ds) [] = None
+fields_from fs (d ∷ ds) (y ∷ values) = chain (field_made d y) (λ f. fields_from (fs ++ f ∷ []) ds values)
+
+-- behind the return line of the equivalence function
+abbrev pub equivalence_made : Scope → Made → Values → Made
+equivalence_made s m values = record m { fields = fields_from [] s.fields values; equation_locals = m.locals; locals = [] }
+
+abbrev pub named_with : Name → Made → tree.Tree → Named
+named_with x m y = record { name = x; locals = m.locals; value = y }
+
+abbrev pub with_invariant : Name → Made → tree.Tree → Made
+with_invariant x m y = record m { invariants = m.invariants ++ named_with x m y ∷ []; locals = [] }
+
+abbrev pub with_property : Name → Made → tree.Tree → Made
+with_property x m y = record m { properties = m.properties ++ named_with x m y ∷ []; locals = [] }
+
+abbrev pub return_made : Option Function → Scope → Made → Tree → Option Made
+return_made (Some equivalence) s m e = one (equivalence_made s m) (values_of s e)
+return_made (Some (invariant x)) s m e = one (with_invariant x m) (take s [] Truth e)
+return_made (Some (property x)) s m e = one (with_property x m) (take s [] Truth e)
+return_made _ s m e = one (λ y. m) (take s [] Truth e)
+
+abbrev pub write_at : Option ℕ → Made → tree.Trees → tree.Tree → Option Made
+write_at None m at y = None
+write_at (Some place) m at y = Some (record m { lines = m.lines ++ tree.write_line place at y ∷ [] })
+
+-- a write to a field of this sort
+abbrev pub sorted_write : Scope → Made → Name → Option Trees → Tree → FieldSort → Option Made
+sorted_write s m f at e sort =
+    chain (written_at s sort.keys at) (λ xs. chain (take s [] (Number sort.width) e) (λ y. write_at (field_place s f) m xs y))
+
+abbrev pub written : Scope → Made → Name → Option Trees → Tree → Option Made
+written s m f at e = chain (field_sort s f) (sorted_write s m f at e)
+
+abbrev pub result_made : Here → Option Tree → Option (Option tree.Tree)
+result_made h None = Some None
+result_made h (Some r) = one Some (take h.scope [] (result_kind h.scope h.result r) r)
+
+abbrev pub result_width : Option ℕ → ℕ
+result_width None = 0
+result_width (Some w) = w
+
+abbrev pub transition_with : Here → List tree.Line → Name → Head → ℕ → tree.Tree → Option tree.Tree → Transition
+transition_with h lines c head place valid result =
+    record {
+      line = head.line;
+      name = head.name;
+      function = place;
+      widths = map width_of_type (types_of (function_named h.scope.kernel head.name));
+      lines = lines;
+      valid = valid;
+      returns_new = is_new (meaning h.scope c);
+      result = result;
+      result_width = result_width h.result;
+    }
+
+-- a return line of anything but a handler with a function of the kernel adds nothing
+abbrev pub head_made : Here → Made → Name → tree.Tree → Option tree.Tree → Head → Option ℕ → Made
+head_made h m c valid result head None = m
+head_made h m c valid result head (Some place) =
+    if is_handler head.kind then record m { transitions = m.transitions ++ transition_with h m.lines c head place valid result ∷ []; lines = [] } else m
+
+abbrev pub end_made : Here → Made → Name → tree.Tree → Option tree.Tree → Option Head → Made
+end_made h m c valid result None = m
+end_made h m c valid result (Some head) = head_made h m c valid result head head.place
+
+-- behind a line
+abbrev pub made_behind : Here → Made → Item → Option Made
+made_behind h m (def_line x parameters) = Some (record m { locals = []; lines = [] })
+made_behind h m (let_line x e) = let_made h m e
+made_behind h m (write_line c f at e) = written h.scope m f at e
+made_behind h m (return_line e) = return_made (kind_of h.head) h.scope m e
+made_behind h m (end_line e c r) = chain (pair (take h.scope [] Truth e) (result_made h r)) (λ p. Some (end_made h m c p.0 p.1 h.head))
+made_behind h m _ = Some m
+
+abbrev pub made_from : Here → Made → List Line → Option Made
+made_from h m [] = Some m
+made_from h m (l ∷ ls) = chain (made_behind h m l.item) (λ n. made_from (behind h l.line l.item) n ls)
+
+abbrev pub spec_with : Kernel → Made → Option Spec
+spec_with k m =
+    one
+    (λ fs.
+    record {
+      fields = fs;
+      equation_locals = m.equation_locals;
+      invariants = m.invariants;
+      properties = m.properties;
+      transitions = m.transitions;
+      objects = map (λ g. g.size) k.globals;
+    })
+    m.fields
+
+-- the specification that raw lines stand for, of which no line falls under a reason
+abbrev pub spec_of : Kernel → List Line → Option Spec
+spec_of k raw = chain (made_from (begin k raw) nothing_made raw) (spec_with k)

@@ -1,0 +1,16 @@
+//! Lines of a specification: what each makes of the names that may be used behind it, which faults it has, and what a whole
+//! specification stands for.
+#![tactic(auto)]
+
+pub mod equation;
+pub mod faults;
+pub mod findings;
+pub mod fore;
+pub mod function;
+pub mod here;
+pub mod made;
+pub mod sorts;
+pub mod step;
+
+pub use function::FunctionKind;
+pub use here::{Head, Here};

@@ -1,0 +1,334 @@
+//! What a line adds to a specification.
+
+ghost use Rattle.std.specs.Prelude.{◌≡◌, ◌++◌, ◌∷◌, [], Some, None, map, option_map, OnOk, IfOk};
+ghost use Rattle.spec_ast.specs.View.{view_expr as view_raw, view_expr_list as view_raws};
+ghost use Rattle.spec_tree.specs.View.{view_expr, view_expr_list, view_key, view_line, view_named, view_transition};
+ghost use Rattle.spec_tree.specs.Plain as tree;
+ghost use Rattle.spec_kernel.specs.Seen.{view_value};
+ghost use Rattle.spec_scope.specs.Fields.{view_sort};
+ghost use Rattle.spec_scope.specs.Scope as scopes;
+ghost use Rattle.spec_scope.specs.Takes.{index_kind};
+ghost use Rattle.spec_scope.specs.Taking as taking;
+ghost use Rattle.spec_scope.specs.View.{view_scope};
+ghost use Rattle.spec_take.specs.Answers.{Gives};
+ghost use Rattle.spec_lines.specs.Behind as behind;
+ghost use Rattle.spec_lines.specs.Faults as faults;
+ghost use Rattle.spec_lines.specs.Whole as definition;
+ghost use Rattle.spec_lines.specs.View.{view_here, view_kind, view_head, view_equation};
+ghost use Rattle.spec_lines.specs.MadeView.{view_made, view_values, Makes};
+
+use crate::equation::{Equation, equation_in, field_sort, trees_of};
+use crate::faults::is_new;
+use crate::function::FunctionKind;
+use crate::here::{Head, Here, is_equivalence, is_handler};
+use crate::step::{let_kind, skips, types_of, width_of};
+use spec_kernel::ValueType;
+use spec_ast::{Name, RawExpr, RawExprs, RawItem};
+use spec_scope::{BoundNames, FieldSort, Kind, Scope, TakeStop};
+use spec_take::{OwnKind, indices, own, take};
+use spec_tree::{Body, Expr, ExprList, Field, Line, LineList, Named, SizeList, Sort, Transition, Write};
+use std::alloc::{AllocError, Global};
+use std::mem;
+
+/// What the lines before a line give: the parts of the specification, and of the function that goes on its local names or its lines.
+#[derive(Drop)]
+pub struct Made {
+    pub fields: Option<Vec<Field>>,
+    pub equation_locals: Vec<Expr>,
+    pub invariants: Vec<Named>,
+    pub properties: Vec<Named>,
+    pub transitions: Vec<Transition>,
+    pub locals: Vec<Expr>,
+    pub lines: Vec<Line>,
+}
+
+/// Nothing.
+pub fn nothing_made(alloc: Global) -> Made
+    ensures { view_made result ≡ definition.nothing_made }
+{
+    Made {
+        fields: Some(Vec::new(alloc)),
+        equation_locals: Vec::new(alloc),
+        invariants: Vec::new(alloc),
+        properties: Vec::new(alloc),
+        transitions: Vec::new(alloc),
+        locals: Vec::new(alloc),
+        lines: Vec::new(alloc),
+    }
+}
+
+/// What an expression stands for where no variable is bound.
+fn take_alone(
+    alloc: Global,
+    scope: &Scope<'_>,
+    kind: Kind,
+    e: &RawExpr,
+) -> Result<Expr, TakeStop>
+    ensures { Gives view_expr result (taking.take (view_scope scope.now) [] kind (view_raw e.now)) }
+{
+    let mut bound = BoundNames::new(alloc);
+    take(alloc, scope, &mut bound, kind, e)
+}
+
+impl Made {
+    /// Adds a local name: a line of a transition, or a local name of any other function.
+    fn add_let(&mut self, handler: bool, y: Expr) -> Result<(), AllocError>
+        ensures { OnOk result (view_made self.new ≡ definition.with_let handler (view_made self.old) (view_expr y)) }
+    {
+        if handler {
+            self.lines.push(Line::Let(y))?;
+        } else {
+            self.locals.push(y)?;
+        }
+        Ok(())
+    }
+
+    /// Adds a local name, unless it has no place.
+    fn put_let(&mut self, skipped: bool, handler: bool, y: Expr) -> Result<(), AllocError>
+        ensures { OnOk result (view_made self.new ≡ definition.put_let skipped handler (view_made self.old) (view_expr y)) }
+    {
+        if skipped {
+            drop(y);
+            return Ok(());
+        }
+        self.add_let(handler, y)
+    }
+
+    /// Behind a local name.
+    fn at_let(&mut self, alloc: Global, here: &Here<'_>, e: &RawExpr) -> Result<(), TakeStop>
+        ensures { Makes result (view_made self.new) (definition.let_made (view_here here.now) (view_made self.old) (view_raw e.now)) }
+    {
+        match let_kind(&here.scope, e) {
+            Some(kind) => {
+                let y = take_alone(alloc, &here.scope, kind, e)?;
+                let skipped = skips(alloc, here, e)?;
+                self.put_let(skipped, is_handler(kind_of(&here.head)), y)?;
+                Ok(())
+            }
+            None => Err(TakeStop::Unfit),
+        }
+    }
+}
+
+/// The kind of the function that goes on.
+fn kind_of<'s>(head: &Option<Head<'s>>) -> Option<FunctionKind<'s>>
+    ensures { option_map view_kind result ≡ behind.kind_of (option_map view_head head.now) }
+{
+    match head {
+        Some(head) => head.kind,
+        None => None,
+    }
+}
+
+/// The indices of a write, one for each key.
+fn written_at(
+    alloc: Global,
+    scope: &Scope<'_>,
+    keys: &[Sort],
+    at: &Option<RawExprs>,
+) -> Result<ExprList, TakeStop>
+    ensures { Gives view_expr_list result (faults.written_at (view_scope scope.now) (map view_key keys.now) (option_map view_raws at.now)) }
+{
+    match at {
+        Some(es) => {
+            let mut bound = BoundNames::new(alloc);
+            indices(alloc, scope, &mut bound, keys, es)
+        }
+        None => no_indices(alloc, keys),
+    }
+}
+
+/// No indices, for no keys.
+fn no_indices(alloc: Global, keys: &[Sort]) -> Result<ExprList, TakeStop>
+    ensures { Gives view_expr_list result (taking.no_keys (map view_key keys.now) tree.no_trees) }
+{
+    match keys {
+        [] => Ok(ExprList::of(Vec::new(alloc))),
+        [_, ..] => Err(TakeStop::Unfit),
+    }
+}
+
+impl Made {
+    /// Adds a write.
+    fn add_write(&mut self, place: Option<u32>, index: ExprList, value: Expr) -> Result<(), TakeStop>
+        ensures { Makes result (view_made self.new) (definition.write_at place (view_made self.old) (view_expr_list index) (view_expr value)) }
+    {
+        match place {
+            Some(field) => {
+                self.lines.push(Line::Write(Write {
+                    field,
+                    index,
+                    value,
+                }))?;
+                Ok(())
+            }
+            None => {
+                drop(index);
+                drop(value);
+                Err(TakeStop::Unfit)
+            }
+        }
+    }
+
+    /// Behind a write to a field of this sort.
+    fn at_sorted_write(
+        &mut self,
+        alloc: Global,
+        here: &Here<'_>,
+        field: &[u8],
+        sort: &FieldSort,
+        at: &Option<RawExprs>,
+        e: &RawExpr,
+    ) -> Result<(), TakeStop>
+        ensures { Makes result (view_made self.new) (definition.sorted_write (view_scope here.now.scope) (view_made self.old) field.now (option_map view_raws at.now) (view_raw e.now) (view_sort sort.now)) }
+    {
+        let index = written_at(alloc, &here.scope, sort.keys.as_slice(), at)?;
+        let value = take_alone(alloc, &here.scope, Kind::Number(sort.width), e)?;
+        self.add_write(here.scope.fields.place(field), index, value)
+    }
+
+    /// Behind a write.
+    fn at_write(
+        &mut self,
+        alloc: Global,
+        here: &Here<'_>,
+        field: &[u8],
+        at: &Option<RawExprs>,
+        e: &RawExpr,
+    ) -> Result<(), TakeStop>
+        ensures { Makes result (view_made self.new) (definition.written (view_scope here.now.scope) (view_made self.old) field.now (option_map view_raws at.now) (view_raw e.now)) }
+    {
+        match field_sort(&here.scope, field) {
+            Some(sort) => self.at_sorted_write(alloc, here, field, sort, at, e),
+            None => Err(TakeStop::Unfit),
+        }
+    }
+}
+
+/// A function that is done, with the local names that go with it.
+fn named_with(
+    alloc: Global,
+    name: &[u8],
+    locals: Vec<Expr>,
+    value: Expr,
+) -> Result<Named, AllocError>
+    ensures { IfOk result (λ n. view_named n ≡ record { name = name.now; locals = map view_expr locals.items; value = view_expr value }) }
+{
+    let name = Name::copy_of(alloc, name)?;
+    let locals = ExprList { items: locals };
+    Ok(Named {
+        name,
+        body: Body { locals, value },
+    })
+}
+
+impl Made {
+    /// Adds an invariant.
+    fn add_invariant(&mut self, alloc: Global, name: &[u8], value: Expr) -> Result<(), AllocError>
+        ensures { OnOk result (view_made self.new ≡ definition.with_invariant name.now (view_made self.old) (view_expr value)) }
+    {
+        let locals = mem::replace(&mut self.locals, Vec::new(alloc));
+        let named = named_with(alloc, name, locals, value)?;
+        self.invariants.push(named)?;
+        Ok(())
+    }
+
+    /// Adds a property.
+    fn add_property(&mut self, alloc: Global, name: &[u8], value: Expr) -> Result<(), AllocError>
+        ensures { OnOk result (view_made self.new ≡ definition.with_property name.now (view_made self.old) (view_expr value)) }
+    {
+        let locals = mem::replace(&mut self.locals, Vec::new(alloc));
+        let named = named_with(alloc, name, locals, value)?;
+        self.properties.push(named)?;
+        Ok(())
+    }
+}
+
+/// The result of a transition.
+fn result_made(
+    alloc: Global,
+    here: &Here<'_>,
+    r: &Option<RawExpr>,
+) -> Result<Option<Expr>, TakeStop>
+    ensures { Gives (option_map view_expr) result (definition.result_made (view_here here.now) (option_map view_raw r.now)) }
+{
+    match r {
+        Some(r) => {
+            let y = taken_result(alloc, here, r)?;
+            Ok(Some(y))
+        }
+        None => Ok(None),
+    }
+}
+
+/// What the result of a transition stands for.
+
+fn taken_result(alloc: Global, here: &Here<'_>, r: &RawExpr) -> Result<Expr, TakeStop>
+    ensures { Gives view_expr result (taking.take (view_scope here.now.scope) [] (faults.result_kind (view_scope here.now.scope) here.now.result (view_raw r.now)) (view_raw r.now)) }
+{
+    match here.result {
+        Some(width) => take_alone(alloc, &here.scope, Kind::Number(width), r),
+        None => taken_freely(alloc, &here.scope, r),
+    }
+}
+
+/// What an expression stands for where its own kind is asked for, or 64 bits.
+#[tactic(auto, using(crate::proofs::Results::absent_at, crate::proofs::Results::known_at, crate::proofs::Results::void_at))]
+fn taken_freely(alloc: Global, scope: &Scope<'_>, r: &RawExpr) -> Result<Expr, TakeStop>
+    ensures { Gives view_expr result (taking.take (view_scope scope.now) [] (index_kind (scopes.own (view_scope scope.now) (view_raw r.now))) (view_raw r.now)) }
+{
+    match own(scope, r) {
+        OwnKind::Absent => take_alone(alloc, scope, Kind::Number(64), r),
+        OwnKind::Known(kind) => take_alone(alloc, scope, kind, r),
+        OwnKind::TooWide => Err(TakeStop::Unfit),
+    }
+}
+
+/// The widths of the parameters of the kernel's function at a place.
+fn widths_of(alloc: Global, types: &[ValueType]) -> Result<Vec<u32>, AllocError>
+    ensures { IfOk result (λ v. v.items ≡ map behind.width_of_type (map view_value types.now)) }
+{
+    let mut widths = Vec::new(alloc);
+    'each: for value in types {
+        widths.push(width_of(*value))?;
+    }
+    Ok(widths)
+}
+
+/// The width of a result; 0 for void.
+fn result_width(width: Option<u32>) -> u32
+    ensures { result ≡ definition.result_width width }
+{
+    match width {
+        Some(width) => width,
+        None => 0,
+    }
+}
+
+/// The transition that ends, with these lines.
+fn transition_with(
+    alloc: Global,
+    here: &Here<'_>,
+    lines: Vec<Line>,
+    state: &[u8],
+    head: &Head<'_>,
+    place: u32,
+    valid: Expr,
+    r: Option<Expr>,
+) -> Result<Transition, AllocError>
+    ensures { IfOk result (λ t. view_transition t ≡ definition.transition_with (view_here here.now) (map view_line lines.items) state.now (view_head head.now) place (view_expr valid) (option_map view_expr r)) }
+{
+    let name = Name::copy_of(alloc, head.name)?;
+    let widths = widths_of(alloc, types_of(here.scope.kernel, head.name))?;
+    Ok(Transition {
+        line: head.line,
+        name,
+        function: place,
+        widths: SizeList::of(widths),
+        lines: LineList::of(lines),
+        valid,
+        returns_new: is_new(here.scope.meaning(state)),
+        result: r,
+        result_width: result_width(here.result),
+    })
+}
