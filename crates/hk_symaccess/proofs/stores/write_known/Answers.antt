@@ -35,7 +35,7 @@ write_one-requires-clause-mutable g c = λ v e f.
 pub returns-in_ok-write_one-in-Some-clause-value : goal.returns-in_ok-write_one-in-Some-clause-value
 returns-in_ok-write_one-in-Some-clause-value g c = λ v.
     let first = c.args.t.now in
-    c.in_ok-write_one.ensures.value v
+    c.in_ok-write_one-in-Some.ensures.value v
     ∙ known_written (memory_at first c.args.memory.now v) (value first c.args.base v) (value first c.args.offset v) c.args.bytes (value first c.args.number v) c.in-Some.object (is_true first c.args.go v)
     (length c.args.layout.now.objects) (c.requires.known v ∙ c.in-Some.ensures.some.0) (omega (arith, c.in-Some.ensures.some.1, c.objects.ensures.count))
 
