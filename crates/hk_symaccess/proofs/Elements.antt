@@ -1,7 +1,7 @@
 -- Elements of a list by bases: the first element has the base 2.
-use Rattle.std.proofs.Common.{◌≡◌, ◌≢◌, ◌<◌, ◌≤◌, ◌+◌, ◌-◌, ◌⊎◌, ◌||◌, ◌&&◌, ℕ, zero, suc, Bool, true, false, List, [], ◌∷◌, length, take, inl, inr, refl, sym, ap, ◌∙◌, subst, arith, nat_eq, nat_le, nat_lt, not, if◌then◌else◌}
-use Rattle.std.specs.Prelude.{map, slice_get, slice_index_or, Some}
-use Rattle.std.proofs.lemmas.Bool.{le-leb, lt-leb, eq-eqb, cases_lt}
+use Rattle.std.proofs.Common.{◌≡◌, ◌≢◌, ◌<◌, ◌≤◌, ◌+◌, ◌-◌, ◌⊎◌, ℕ, zero, suc, true, false, List, [], ◌∷◌, take, inl, inr, refl, sym, ap, ◌∙◌, arith, nat_eq, nat_le, if◌then◌else◌}
+use Rattle.std.specs.Prelude.{slice_get, slice_index_or, Some}
+use Rattle.std.proofs.lemmas.Bool.{le-leb, lt-leb, cases_lt}
 use Rattle.std.proofs.lemmas.Bool.Decides.{eqb_tells}
 
 -- the first elements at a place among them, and behind them
@@ -46,11 +46,3 @@ element_more {A} xs k b x d e = ap (λ n. element (take n xs) d b) next ∙ by (
         other : (1 < b) ⊎ (b ≤ 1) → element (take (suc k) xs) d b ≡ element (take k xs) d b
         other (inl l) = ap (λ y. if nat_le b 1 then d else y) (same_taken xs k (b - 2) d (λ (h : b - 2 ≡ k). f.1 (omega (arith, l, h))))
         other (inr l) = ap (λ q. if q then d else slice_index_or (take (suc k) xs) (b - 2) d) (le-leb b 1 l) ∙ sym (ap (λ q. if q then d else slice_index_or (take k xs) (b - 2) d) (le-leb b 1 l))
-
--- no element yet
-pub element_none : {A : Type 0} (xs : List A) (b : ℕ) (d : A) → d ≡ element (take 0 xs) d b
-element_none xs b d = by (nat_le b 1)
-  where
-    by : (t : Bool) → d ≡ (if t then d else slice_index_or (take 0 xs) (b - 2) d)
-    by true = refl
-    by false = refl

@@ -1,11 +1,11 @@
 -- Where an access reaches, by the parts of its address.
-use Rattle.std.proofs.Common.{◌≡◌, ◌≢◌, ◌<◌, ◌≤◌, ◌+◌, ◌-◌, ◌*◌, ◌%◌, ◌^◌, ◌⊎◌, ◌||◌, ◌&&◌, ◌==◌, ℕ, zero, suc, Bool, true, false, List, [], ◌∷◌, length, inl, inr, refl, sym, ap, ◌∙◌, subst, arith, nat_eq, nat_le, nat_lt, not, if◌then◌else◌}
+use Rattle.std.proofs.Common.{◌≡◌, ◌≢◌, ◌<◌, ◌≤◌, ◌+◌, ◌-◌, ◌⊎◌, ℕ, zero, suc, Bool, true, false, List, [], length, inl, inr, refl, sym, ap, ◌∙◌, subst, arith, nat_eq, nat_le, not, if◌then◌else◌}
 use Rattle.std.proofs.lemmas.Bool.{le-leb, lt-leb, leb-true, eqb-true, eq-eqb, cases_lt, true≢false}
 use Rattle.std.proofs.lemmas.Bool.Decides.{eqb_tells}
 use Rattle.std.proofs.lemmas.List.{get_or_past}
-use Rattle.ir_layout.specs.Bytes.{IsWidth, object_of, number_at}
+use Rattle.ir_layout.specs.Bytes.{object_of, number_at}
 use Rattle.ir_value.specs.declared.value.Value.{Value}
-use Rattle.ir_value.specs.declared.value.Value.TheVariants.{Number, Null, Address, Poison}
+use Rattle.ir_value.specs.declared.value.Value.TheVariants.{Number, Null, Address}
 use Rattle.ir_value.specs.declared.value.StuckReason.{StuckReason}
 use Rattle.ir_value.specs.declared.value.StuckReason.TheVariants.{U5, U6, U7, U8}
 use Rattle.ir_value.specs.declared.value.Made.TheVariants as made

@@ -1,5 +1,5 @@
 -- The objects of a memory have the sizes of its layout.
-use Rattle.std.proofs.Common.{◌≡◌, ◌≢◌, ◌<◌, ◌≤◌, ◌+◌, ◌-◌, ℕ, zero, suc, Bool, true, false, List, [], ◌∷◌, length, refl, sym, ap, ◌∙◌, subst, arith, nat_le, if◌then◌else◌}
+use Rattle.std.proofs.Common.{◌≡◌, ◌<◌, ◌+◌, ◌-◌, ℕ, zero, suc, List, [], ◌∷◌, length, refl, sym, ap, ◌∙◌, arith, nat_le, if◌then◌else◌}
 use Rattle.std.specs.Prelude.{map, slice_get, slice_index_or, Some}
 use Rattle.std.specs.List.{range_with_len}
 use Rattle.std.proofs.lemmas.List.FromFn.{length-map-range_with_len}
@@ -63,18 +63,9 @@ align_there (o ∷ os) [] k p l = absurd (cc)
 align_there (o ∷ os) (q ∷ qs) zero p l = refl
 align_there (o ∷ os) (q ∷ qs) (suc k) p l = align_there os qs k (tail_is _ _ _ _ p) (omega (arith, l))
 
-pub object_there : (layout : List laid.Object) (objects : List Object) (k : ℕ) → AreOf layout objects → k < length layout → slice_get objects k ≡ Some (object_at objects k)
-object_there [] objects k p l = absurd (omega (arith, l))
-object_there (o ∷ os) [] k p l = absurd (cc)
-object_there (o ∷ os) (q ∷ qs) zero p l = refl
-object_there (o ∷ os) (q ∷ qs) (suc k) p l = object_there os qs k (tail_is _ _ _ _ p) (omega (arith, l))
-
 map_count : {A B : Type 0} (f : A → B) (xs : List A) → length (map f xs) ≡ length xs
 map_count f [] = refl
 map_count f (x ∷ xs) = ap suc (map_count f xs)
-
-pub objects_count : (layout : List laid.Object) (objects : List Object) → AreOf layout objects → length layout ≡ length objects
-objects_count layout objects p = sym (map_count (λ (o : laid.Object). o.constant) layout) ∙ ap (λ xs. length xs) p ∙ map_count (λ (o : Object). o.constant) objects
 
 pub memory_count : (layout : List laid.Object) (nodes : List Node) (m : MemoryView) (v : Reading) → AreOriginsOf layout m.origins → AreWhole layout → length (memory_at nodes m v) ≡ length layout
 memory_count layout nodes m v a w =

@@ -1,21 +1,18 @@
 -- What a store comes to, by the parts of its value and its address.
-use Rattle.std.proofs.Common.{◌≡◌, ◌≢◌, ◌<◌, ◌≤◌, ◌+◌, ◌-◌, ◌*◌, ◌%◌, ◌^◌, ◌⊎◌, ◌||◌, ◌&&◌, ◌==◌, ℕ, zero, suc, Bool, true, false, List, [], ◌∷◌, length, inl, inr, refl, sym, ap, ◌∙◌, subst, arith, nat_eq, nat_le, nat_lt, not, if◌then◌else◌}
+use Rattle.std.proofs.Common.{◌≡◌, ◌≤◌, ◌+◌, ◌-◌, ◌*◌, ◌%◌, ◌^◌, ◌||◌, ◌&&◌, ℕ, Bool, true, false, List, length, inl, inr, refl, sym, ap, ◌∙◌, subst, arith, nat_eq, nat_le, not, if◌then◌else◌}
 use Rattle.std.specs.Prelude.{Some}
 use Rattle.std.proofs.Math.Nat.{mod-eq_of_lt}
-use Rattle.std.proofs.lemmas.Bool.{le-leb, lt-leb, lt-ltb, leb-true, ltb-true, eqb-true, cases_lt, true≢false}
-use Rattle.ir_layout.specs.Bytes.{object_of}
-use Rattle.ir_value.specs.declared.value.Value.{Value}
-use Rattle.ir_value.specs.declared.value.Value.TheVariants.{Number, Null, Address, Poison}
+use Rattle.std.proofs.lemmas.Bool.{lt-leb, lt-ltb, ltb-true, true≢false}
+use Rattle.ir_value.specs.declared.value.Value.TheVariants.{Number, Null, Address}
 use Rattle.ir_value.specs.declared.value.StuckReason.TheVariants as u
 use Rattle.ir_value.specs.declared.access.Access.{Access}
-use Rattle.ir_value.specs.declared.access.Access.TheVariants.{At, Not, Nowhere}
 use Rattle.ir_value.specs.Numbers.{is_width, is_number}
 use Rattle.ir_code.specs.declared.program.Object.{Object}
 use Rattle.ir_machine.specs.declared.state.Written.{Written}
 use Rattle.ir_machine.specs.declared.state.Written.TheVariants.{Puts, Sticks, Lost}
 use Rattle.ir_machine.specs.Values.{reached, are_bytes, object_at}
 use Rattle.ir_machine.specs.Step.{put_value, store_to, stored, write_to}
-use Rattle.hk_symvalue.specs.Meaning.{stands_for, based}
+use Rattle.hk_symvalue.specs.Meaning.{stands_for}
 use Rattle.hk_symvalue.specs.Rows.{Reaches}
 use Rattle.hk_symaccess.specs.Accesses.{LiesAt, MayWrite, Refuses, Stores, is_fixed, written_up_to}
 use Rattle.hk_symaccess.proofs.Reaching.{Reached, reached_as, passes_lies}

@@ -1,8 +1,7 @@
 -- Writes object by object.
-use Rattle.std.proofs.Common.{◌≡◌, ◌≢◌, ◌<◌, ◌≤◌, ◌+◌, ◌-◌, ◌⊎◌, ◌&&◌, ℕ, zero, suc, Bool, true, false, List, length, inl, inr, refl, sym, ap, ◌∙◌, subst, arith, nat_eq, nat_le, nat_lt, not, if◌then◌else◌}
-use Rattle.std.proofs.lemmas.Bool.{lt-leb, le-leb, lt-ltb, le-ltb, cases_lt, true≢false, ne_eqb, eq-eqb, false_from_ne_true}
+use Rattle.std.proofs.Common.{◌≡◌, ◌≢◌, ◌<◌, ◌≤◌, ◌+◌, ◌-◌, ◌⊎◌, ◌&&◌, ℕ, Bool, true, false, List, inl, inr, refl, sym, ap, ◌∙◌, arith, nat_eq, nat_le, nat_lt, not, if◌then◌else◌}
+use Rattle.std.proofs.lemmas.Bool.{lt-leb, le-leb, lt-ltb, le-ltb, cases_lt, true≢false, eq-eqb}
 use Rattle.std.proofs.lemmas.Bool.Decides.{eqb_tells}
-use Rattle.ir_layout.specs.Bytes.{object_of}
 use Rattle.ir_machine.specs.Step.{write_to}
 use Rattle.hk_symaccess.specs.Accesses.{written_up_to}
 
@@ -38,17 +37,6 @@ module _ (memory : List (List ℕ)) (b x bytes n object : ℕ) where
       by : (go : Bool) → (if go && false then write_to memory bytes (b - 2) x n else memory) ≡ memory
       by true = refl
       by false = refl
-
-  pub none_first : (go : Bool) → memory ≡ written_up_to 0 go memory b x bytes n
-  none_first go = sym (by (cases_lt b 2) go)
-    where
-      empty : (t : Bool) → (not (nat_le b 1) && nat_lt b (0 + 2)) ≡ false → (go : Bool) → written_up_to 0 go memory b x bytes n ≡ memory
-      empty t e true = ap (λ z. if true && z then write_to memory bytes (b - 2) x n else memory) e
-      empty t e false = refl
-
-      by : (b < 2) ⊎ (2 ≤ b) → (go : Bool) → written_up_to 0 go memory b x bytes n ≡ memory
-      by (inl l) go = empty true (is_null (omega (arith, l)) 0) go
-      by (inr l) go = empty true (is_over l 0 (omega (arith, l))) go
 
   pub one_written : (go : Bool) (now : List (List ℕ)) → now ≡ written_up_to object go memory b x bytes n
       → (if go && nat_eq b (object + 2) then write_to now bytes object x n else now) ≡ written_up_to (object + 1) go memory b x bytes n

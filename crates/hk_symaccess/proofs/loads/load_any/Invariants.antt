@@ -1,4 +1,4 @@
-use Rattle.std.proofs.Common.{◌≡◌, ◌<◌, ◌≤◌, ◌+◌, ◌-◌, ◌*◌}
+use Rattle.std.proofs.Common.{◌≡◌, ◌<◌, ◌+◌, ◌-◌, ◌*◌}
 use Rattle.hk_term.specs.Meaning.{Reading, value}
 use Rattle.ir_layout.specs.Bytes.{object_of, number_at}
 use Rattle.hk_symvalue.specs.Growth.{Extends}

@@ -1,4 +1,4 @@
-use Rattle.std.proofs.Common.{◌≡◌, ◌+◌, ◌≤◌, ◌∙◌, ap, arith, length, true}
+use Rattle.std.proofs.Common.{◌≡◌, ◌+◌, ◌≤◌, ◌∙◌, ap, arith, length}
 use Rattle.hk_term.specs.Meaning.{value}
 use Rattle.ir_layout.specs.Bytes.{object_of, number_at}
 use Rattle.hk_symmem.specs.Guarded.{memory_at}

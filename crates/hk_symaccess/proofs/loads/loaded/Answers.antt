@@ -1,6 +1,5 @@
-use Rattle.std.proofs.Common.{rules, ◌≡◌, ◌∙◌, ap, sym, subst, nat_eq}
+use Rattle.std.proofs.Common.{rules, ◌≡◌, ◌∙◌, sym, subst}
 use Rattle.hk_term.specs.Meaning.{value}
-use Rattle.ir_value.specs.declared.value.Value.TheVariants.{Number}
 use Rattle.ir_machine.specs.Values.{reached}
 use Rattle.hk_symvalue.specs.Growth.{Extends}
 use Rattle.hk_symvalue.specs.Meaning.{is_true, meaning}

@@ -5,7 +5,7 @@ use Rattle.ir_machine.specs.Step.{stored}
 use Rattle.hk_symvalue.specs.Growth.{Extends}
 use Rattle.hk_symvalue.specs.Meaning.{is_true, meaning}
 use Rattle.hk_symmem.specs.Guarded.{memory_at}
-use Rattle.hk_symaccess.specs.Accesses.{MayWrite, Stores, written_up_to}
+use Rattle.hk_symaccess.specs.Accesses.{Stores, written_up_to}
 use Rattle.hk_symaccess.proofs.Kept.{memory_kept}
 use Rattle.hk_symaccess.proofs.Sizes.{memory_count}
 use Rattle.hk_symaccess.proofs.Storing.{store_writes, may_write}

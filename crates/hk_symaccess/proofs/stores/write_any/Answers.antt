@@ -1,4 +1,4 @@
-use Rattle.std.proofs.Common.{rules, ◌≡◌, ◌<◌, ◌+◌, ◌-◌, ◌≤◌, ◌&&◌, ◌∙◌, ap, sym, subst, arith, length, true, false, if◌then◌else◌, nat_eq, nat_le}
+use Rattle.std.proofs.Common.{rules, ◌≡◌, ◌+◌, ◌-◌, ◌&&◌, ◌∙◌, ap, sym, subst, arith, length, if◌then◌else◌, nat_eq}
 use Rattle.std.proofs.lemmas.Bool.{eqb-true, lt-leb}
 use Rattle.hk_term.specs.Meaning.{value}
 use Rattle.ir_layout.specs.Bytes.{object_of}
@@ -8,7 +8,7 @@ use Rattle.hk_symvalue.specs.Meaning.{is_true}
 use Rattle.hk_symmem.specs.Origins.{AreOriginsOf}
 use Rattle.hk_symmem.specs.Guarded.{memory_at}
 use Rattle.hk_symaccess.specs.Accesses.{MayWrite}
-use Rattle.hk_symaccess.proofs.Writing.{none_first, not_yet, one_written}
+use Rattle.hk_symaccess.proofs.Writing.{not_yet, one_written}
 use Rattle.hk_symaccess.proofs.stores.write_any.Goals as goal
 
 pub write_one-requires-clause-fits : goal.write_one-requires-clause-fits

@@ -1,4 +1,4 @@
-use Rattle.std.proofs.Common.{rules, ◌≡◌, ◌+◌, ◌≤◌, ◌&&◌, ◌∙◌, ap, sym, arith, length, true, if◌then◌else◌, nat_eq}
+use Rattle.std.proofs.Common.{rules, ◌≡◌, ◌+◌, ◌≤◌, ◌&&◌, ◌∙◌, ap, sym, arith, length, if◌then◌else◌, nat_eq}
 use Rattle.std.proofs.lemmas.Bool.{true≢false}
 use Rattle.hk_term.specs.Meaning.{value}
 use Rattle.ir_layout.specs.Bytes.{object_of}
