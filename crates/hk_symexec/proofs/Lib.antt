@@ -1,0 +1,11 @@
+pub mod EntryLaws
+pub mod Kept
+pub mod Following
+pub mod Visiting
+pub mod Settling
+pub mod PhiLaws
+pub mod Carrying
+pub mod Leading
+pub mod Calling
+pub mod CallLaws
+pub mod Running

@@ -1,0 +1,6 @@
+use Rattle.std.proofs.Common.{drop}
+use Rattle.hk_symexec.proofs.Leading.{Casing}
+use Rattle.hk_symexec.proofs.leads.cases_on.Given as goal
+
+abbrev pub invariant-loop-case : goal.invariant-loop-case
+invariant-loop-case g l = Casing l.fn.program l.fn.function l.fn.from l.fn.t l.t l.fn.memory l.fn.x l.state l.fn.bits l.fn.cases (drop l.case-index l.cases) l.fn.default

@@ -1,0 +1,27 @@
+use Rattle.std.proofs.Common.{rules, ◌≡◌, ◌<◌, ◌+◌, ◌&&◌, ◌||◌, not, ℕ, Bool, true, false, if◌then◌else◌, nat_eq, Option, Some, None, List, [], ◌∷◌, ◌++◌, refl, sym, ap, ◌∙◌, subst, take, drop, length, slice_set, slice_index_or, arith}
+use Rattle.hk_term.specs.Meaning.{value}
+use Rattle.ir_machine.specs.Values.{value_of}
+use Rattle.ir_machine.specs.Step.{stored}
+use Rattle.ir_walk.specs.Walk.{Back, on_value, on_return, on_store}
+use Rattle.hk_symvalue.specs.Growth.{Extends}
+use Rattle.hk_symvalue.specs.Meaning.{is_true, meaning}
+use Rattle.hk_symmem.specs.Guarded.{memory_at}
+use Rattle.hk_symstep.specs.Held.{value_meaning}
+use Rattle.hk_symexec.specs.Seen.{seen}
+use Rattle.hk_symexec.specs.Tracks.{Tracks}
+use Rattle.hk_symexec.proofs.Kept.{over_kept, exec_kept, meaning_kept, seen_kept}
+use Rattle.hk_symexec.proofs.Following.{tracks_as, sticks, comes_back, comes_with, writes}
+use Rattle.hk_symexec.proofs.Carrying.{carried, memory_carried}
+use Rattle.hk_symexec.proofs.Leading.{on_operand, off_operand, value_splits, store_splits}
+use Rattle.hk_symexec.proofs.returns.return_on.Goals as goal
+
+pub returns-clause-tracks : goal.returns-clause-tracks
+returns-clause-tracks c = λ P f v memory line go e h.
+    subst (λ s. Tracks P f s memory go e) (sym (c.in_ok-made.ensures.seen v))
+    (comes_with P f (seen c.stick.new.t v c.in_ok-known.known) memory (λ rs m. Back (Some (meaning c.args.t.now c.args.value v)) m) go e
+    (value_meaning c.come_back_with.new.t v c.in_ok-made.made.value) (meaning c.args.t.now c.args.value v) (λ rs. refl)
+    (λ on. c.in_ok-made.ensures.here v on ∙ ap Some (meaning_kept c.args.t.now c.stick.new.t c.in_ok-known.ensures.frame c.args.value c.requires.value v))
+    (λ off x q. c.in_ok-made.ensures.kept v off x q)
+    (subst (λ s. Tracks P f s memory (λ rs m. Back (Some (meaning c.args.t.now c.args.value v)) m) e) (sym (c.in_ok-known.ensures.seen v))
+    (sticks P f (seen c.args.t.now v c.args.x) memory (λ rs m. on_value line m (Some (meaning c.args.t.now c.args.value v))) (λ rs m. Back (Some (meaning c.args.t.now c.args.value v)) m) e (is_true c.args.t.now c.args.value.poison v)
+    (λ rs on w fine. value_splits line memory (is_true c.args.t.now c.args.value.poison v) (value c.args.t.now c.args.value.base v) (value c.args.t.now c.args.value.bits v)) h)))

@@ -1,0 +1,28 @@
+use Rattle.std.proofs.Common.{rules, ◌≡◌, ◌<◌, ◌+◌, ◌&&◌, ◌||◌, not, ℕ, Bool, true, false, if◌then◌else◌, nat_eq, Option, Some, None, List, [], ◌∷◌, ◌++◌, refl, sym, ap, ◌∙◌, subst, take, drop, length, slice_set, slice_index_or, arith}
+use Rattle.hk_term.specs.Meaning.{value}
+use Rattle.ir_machine.specs.Values.{value_of}
+use Rattle.ir_machine.specs.Step.{stored}
+use Rattle.ir_walk.specs.Walk.{Back, on_value, on_return, on_store}
+use Rattle.hk_symvalue.specs.Growth.{Extends}
+use Rattle.hk_symvalue.specs.Meaning.{is_true, meaning}
+use Rattle.hk_symmem.specs.Guarded.{memory_at}
+use Rattle.hk_symstep.specs.Held.{value_meaning}
+use Rattle.hk_symexec.specs.Seen.{seen}
+use Rattle.hk_symexec.specs.Tracks.{Tracks}
+use Rattle.hk_symexec.proofs.Kept.{over_kept, exec_kept, meaning_kept, seen_kept}
+use Rattle.hk_symexec.proofs.Following.{tracks_as, sticks, comes_back, comes_with, writes}
+use Rattle.hk_symexec.proofs.Carrying.{carried, memory_carried}
+use Rattle.hk_symexec.proofs.Leading.{on_operand, off_operand, value_splits, store_splits}
+use Rattle.hk_symexec.proofs.returns.store_at.Goals as goal
+
+pub returns-clause-tracks : goal.returns-clause-tracks
+returns-clause-tracks g c = λ P f v line go e h.
+    let kept = seen_kept c.args.t.now c.store.new.t c.store.ensures.frame c.args.x c.requires.state v in
+    memory_carried c.store.new.t c.stick.new.t c.in_ok-made.ensures.frame P f c.store.new.memory c.in_ok-stuck.ensures.over v go e (seen c.stick.new.t v c.in_ok-made.made)
+    (subst (λ s. Tracks P f s (memory_at c.store.new.t c.store.new.memory v) go e) (sym (c.in_ok-made.ensures.seen v))
+    (writes P f (seen c.store.new.t v c.args.x) (memory_at c.args.t.now c.args.memory.now v) (memory_at c.store.new.t c.store.new.memory v) (λ rs m. on_store line c.args.bytes rs m go (stored m c.args.objects.now c.args.bytes c.args.align (Some (meaning c.args.t.now c.args.value v)) (Some (meaning c.args.t.now c.args.address v)))) go e (is_true c.store.new.t c.in_ok-stuck.stuck v)
+    (λ off. c.in_ok-stuck.ensures.away v (sym (ap (λ s. s.guard) kept) ∙ off))
+    (λ on rs w fine. store_splits line c.args.bytes rs (memory_at c.args.t.now c.args.memory.now v) (memory_at c.store.new.t c.store.new.memory v) go (is_true c.store.new.t c.in_ok-stuck.stuck v)
+        (stored (memory_at c.args.t.now c.args.memory.now v) c.args.objects.now c.args.bytes c.args.align (Some (meaning c.args.t.now c.args.value v)) (Some (meaning c.args.t.now c.args.address v)))
+        (c.in_ok-stuck.ensures.here v (sym (ap (λ s. s.guard) kept) ∙ on)) fine)
+    (subst (λ s. Tracks P f s (memory_at c.args.t.now c.args.memory.now v) (λ rs m. on_store line c.args.bytes rs m go (stored m c.args.objects.now c.args.bytes c.args.align (Some (meaning c.args.t.now c.args.value v)) (Some (meaning c.args.t.now c.args.address v)))) e) (sym kept) h)))

@@ -1,0 +1,32 @@
+use Rattle.std.proofs.Common.{rules, ◌≡◌, ◌<◌, ◌+◌, ◌&&◌, ◌||◌, not, ℕ, Bool, true, false, if◌then◌else◌, nat_eq, Option, Some, None, List, [], ◌∷◌, ◌++◌, refl, sym, ap, ◌∙◌, subst, take, drop, length, slice_set, slice_index_or, arith}
+use Rattle.hk_term.specs.Meaning.{value}
+use Rattle.ir_machine.specs.Values.{value_of}
+use Rattle.ir_machine.specs.Step.{stored}
+use Rattle.ir_walk.specs.Walk.{Back, on_value, on_return, on_store}
+use Rattle.hk_symvalue.specs.Growth.{Extends}
+use Rattle.hk_symvalue.specs.Meaning.{is_true, meaning}
+use Rattle.hk_symmem.specs.Guarded.{memory_at}
+use Rattle.hk_symstep.specs.Held.{value_meaning}
+use Rattle.hk_symexec.specs.Seen.{seen}
+use Rattle.hk_symexec.specs.Tracks.{Tracks}
+use Rattle.hk_symexec.proofs.Kept.{over_kept, exec_kept, meaning_kept, seen_kept}
+use Rattle.hk_symexec.proofs.Following.{tracks_as, sticks, comes_back, comes_with, writes}
+use Rattle.hk_symexec.proofs.Carrying.{carried, memory_carried}
+use Rattle.hk_symexec.proofs.Leading.{on_operand, off_operand, value_splits, store_splits}
+use Rattle.hk_symexec.proofs.returns.store_value.Goals as goal
+
+pub returns-in-None-clause-tracks : goal.returns-in-None-clause-tracks
+returns-in-None-clause-tracks g c = λ P f v line go e h.
+    carried c.args.t.now c.operand.new.t c.operand.ensures.frame P f c.args.memory.now c.requires.over v go e c.args.x c.requires.state
+    (tracks_as P f (seen c.args.t.now v c.args.x) (memory_at c.args.t.now c.args.memory.now v) (λ rs m. on_store line c.args.bytes rs m go (stored m c.args.objects.now c.args.bytes c.args.align (Some (meaning c.args.t.now c.args.value v)) (value_of m rs c.args.address.now))) go e
+    (λ rs on w fine. absurd (off_operand (λ o. on_store line c.args.bytes rs (memory_at c.args.t.now c.args.memory.now v) go (stored (memory_at c.args.t.now c.args.memory.now v) c.args.objects.now c.args.bytes c.args.align (Some (meaning c.args.t.now c.args.value v)) o)) (λ f. f) (value_of (memory_at c.args.t.now c.args.memory.now v) rs c.args.address.now)
+        (λ x q. subst (λ r. value_meaning c.operand.new.t v r ≡ Some x) c.in-None.is (c.in_ok-read.ensures.covered v rs x w q)) fine)) h)
+
+pub returns-in_ok-made-in-Some-clause-tracks : goal.returns-in_ok-made-in-Some-clause-tracks
+returns-in_ok-made-in-Some-clause-tracks g c = λ P f v line go e h.
+    c.in_ok-made-in-Some.ensures.tracks P f v line go e
+    (subst (λ k. Tracks P f (seen c.operand.new.t v c.args.x) (memory_at c.operand.new.t c.args.memory.now v) (λ rs m. on_store line c.args.bytes rs m go (stored m c.args.objects.now c.args.bytes c.args.align (Some k) (Some (meaning c.operand.new.t c.in-Some.given v)))) e) (sym (meaning_kept c.args.t.now c.operand.new.t c.operand.ensures.frame c.args.value c.requires.value v))
+    (carried c.args.t.now c.operand.new.t c.operand.ensures.frame P f c.args.memory.now c.requires.over v (λ rs m. on_store line c.args.bytes rs m go (stored m c.args.objects.now c.args.bytes c.args.align (Some (meaning c.args.t.now c.args.value v)) (Some (meaning c.operand.new.t c.in-Some.given v)))) e c.args.x c.requires.state
+    (tracks_as P f (seen c.args.t.now v c.args.x) (memory_at c.args.t.now c.args.memory.now v) (λ rs m. on_store line c.args.bytes rs m go (stored m c.args.objects.now c.args.bytes c.args.align (Some (meaning c.args.t.now c.args.value v)) (value_of m rs c.args.address.now))) (λ rs m. on_store line c.args.bytes rs m go (stored m c.args.objects.now c.args.bytes c.args.align (Some (meaning c.args.t.now c.args.value v)) (Some (meaning c.operand.new.t c.in-Some.given v)))) e
+    (λ rs on w fine. on_operand (λ o. on_store line c.args.bytes rs (memory_at c.args.t.now c.args.memory.now v) go (stored (memory_at c.args.t.now c.args.memory.now v) c.args.objects.now c.args.bytes c.args.align (Some (meaning c.args.t.now c.args.value v)) o)) (λ f. f) (value_of (memory_at c.args.t.now c.args.memory.now v) rs c.args.address.now) (meaning c.operand.new.t c.in-Some.given v)
+        (λ x q. subst (λ r. value_meaning c.operand.new.t v r ≡ Some x) c.in-Some.is (c.in_ok-read.ensures.covered v rs x w q)) fine) h)))
