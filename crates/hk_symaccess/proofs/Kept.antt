@@ -1,5 +1,5 @@
 -- Memories over longer lists of terms, and their objects.
-use Rattle.std.proofs.Common.{◌≡◌, ◌<◌, ℕ, zero, suc, false, List, [], ◌∷◌, length, refl, sym, ◌∙◌, arith}
+use Rattle.std.proofs.Common.{◌≡◌, ◌<◌, ℕ, zero, suc, false, List, [], ◌∷◌, length, refl, sym, ◌∙◌, subst, arith}
 use Rattle.std.specs.Prelude.{slice_get, Some}
 use Rattle.std.proofs.lemmas.Bool.{true≢false}
 use Rattle.hk_term.specs.Meaning.{Reading}
@@ -11,7 +11,7 @@ use Rattle.hk_symvalue.specs.Growth.{Extends}
 use Rattle.hk_symmem.specs.Origins.{Origin, fixed, cells, AreOriginsOf}
 use Rattle.hk_symmem.specs.Guarded.{MemoryView, memory_at, IsOver, IsMutable, Keeps}
 use Rattle.hk_symmem.proofs.Laws.{over_grows, memory_grows}
-use Rattle.hk_symaccess.specs.Accesses.{AreOf}
+use Rattle.hk_symaccess.specs.Accesses.{AreOf, FitsMemory}
 
 keeps : (old new : List Node) → Extends old new → Keeps old new
 keeps old new e = record { longer = e.longer; widths = e.widths; values = e.values }
@@ -41,3 +41,7 @@ mutable_at (o ∷ os) (x ∷ xs) (q ∷ qs) (suc k) a p l c = mutable_at os xs q
 pub mutable : (layout : List laid.Object) (objects : List Object) (m : MemoryView) (k : ℕ) → AreOriginsOf layout m.origins → AreOf layout objects → k < length layout
     → (object_at objects k).constant ≡ false → IsMutable m k
 mutable layout objects m k a p l c = mutable_at layout m.origins objects k a p l c
+
+-- a write leaves the objects of a memory
+pub fits_kept : (layout : List laid.Object) (objects : List Object) (old new : MemoryView) → new.origins ≡ old.origins → FitsMemory layout objects old → FitsMemory layout objects new
+fits_kept layout objects old new e f = record { origins = subst (AreOriginsOf layout) (sym e) f.origins; whole = f.whole; program = f.program }

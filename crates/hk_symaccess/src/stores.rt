@@ -308,6 +308,7 @@ fn stored<R: InitialReads>(
 /// Writes a number at a pointer where a guard is true, low byte first: so many bytes, aligned as it says. It gives the term that tells
 /// where the store sticks; there nothing is written. Of a value that is no number of so many bytes nothing is said, nor of another count
 /// of bytes than 1, 2, 4 and 8: neither is in a checked kernel.
+#[tactic(auto, using(crate::proofs::Kept::fits_kept))]
 pub fn store<R: InitialReads>(
     t: &mut Terms,
     layout: &Layout,
@@ -326,6 +327,7 @@ pub fn store<R: InitialReads>(
     requires address { IsSym t.old address }
     ensures frame { Extends t.old t.new }
     ensures origins { memory.new.origins ≡ memory.old.origins }
+    ensures fits { FitsMemory layout.now.objects objects.now memory.new }
     ensures over { IfOk result (λ _. IsOver t.new memory.new) }
     ensures truth { IfOk result (λ r. IsTruth t.new r) }
     ensures away { IfOk result (λ _. (v : Reading) → is_true t.old guard v ≡ false → memory_at t.new memory.new v ≡ memory_at t.old memory.old v) }

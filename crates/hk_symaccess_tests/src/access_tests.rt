@@ -63,7 +63,8 @@ fn number_of(
     if stuck == 1 { Ok(None) } else { Ok(Some(bits)) }
 }
 
-const TEXT: &[u8] = b"@a = global i64 5\n@b = constant i32 7\n@c = global [3 x i32] zeroinitializer";
+const TEXT: &[u8] =
+    b"@a = global i64 5\n@b = constant i32 7\n@c = global [3 x i32] zeroinitializer";
 
 // What is at an address behind a store of 9 at the pointer, 4 bytes at alignment 4: nothing where one of both sticks.
 fn stored(
@@ -84,7 +85,17 @@ fn stored(
     let there = of_value(&mut t, Value::Address { object, offset: at })?;
     let guard = logic::constant(&mut t, go)?;
     let to = pointer(&mut t)?;
-    let stuck = store(&mut t, &layout, &objects, &mut memory, guard, 4, 4, nine, to)?;
+    let stuck = store(
+        &mut t,
+        &layout,
+        &objects,
+        &mut memory,
+        guard,
+        4,
+        4,
+        nine,
+        to,
+    )?;
     let made = load(alloc, &mut t, &layout, &objects, &memory, 4, 4, there)?;
     let mut v = Valuation::new(alloc);
     v.vars.set(1, base)?;
