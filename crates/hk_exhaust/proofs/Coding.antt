@@ -1,13 +1,13 @@
 -- Each case has a number.
 use Rattle.std.proofs.Common.{◌≡◌, ◌+◌, ◌*◌, ◌/◌, ◌%◌, ◌^◌, ◌<◌, ◌≤◌, ℕ, zero, suc, Bool, true, false, if◌then◌else◌, List, [], ◌∷◌, length, map, replicate, refl, sym, ap, ◌∙◌, subst, arith, lit<, mul-le-mul_right}
-use Rattle.std.specs.Prelude.{All, sum, sum_by, Some, slice_get}
+use Rattle.std.specs.Prelude.{All, sum, sum_by, Some}
 use Rattle.std.proofs.lemmas.Nat.{mod-mul-add, div-mul-add, pow-add}
 use Rattle.std.proofs.lemmas.List.Sums.{sum_by-cons}
 use Rattle.std.proofs.lemmas.List.Folds.{sum_by-replicate}
 use Rattle.std.proofs.lemmas.List.Elements.{All-head, All-tail}
 use Rattle.ir_layout.specs.declared.object.Object.{Object}
 use Rattle.spec_tree.specs.Plain.{Field, Transition, Spec}
-use Rattle.spec_tree.specs.Sorted.{key_sizes, product, sort_of, field_sorts}
+use Rattle.spec_tree.specs.Sorted.{key_sizes, product, sort_of}
 use Rattle.spec_tree.specs.Shapes.{AreNumbers, AreEntries, IsState, IsMemory}
 use Rattle.hk_case.specs.declared.Obligation.{Obligation}
 use Rattle.hk_case.specs.declared.Obligation.TheVariants.{Undefined, Invariant, State, ResultValue, Property}

@@ -1,7 +1,6 @@
 -- What a kernel, a specification that fits it and an obligation of a handler give.
-use Rattle.std.proofs.Common.{◌≡◌, ◌+◌, ◌<◌, ◌≤◌, ◌↔◌, ◌^◌, ℕ, zero, suc, Bool, true, false, Option, Some, None, List, [], ◌∷◌, ◌++◌, length, map, get_or, refl, sym, ap, ◌∙◌, subst, arith, rules}
+use Rattle.std.proofs.Common.{◌≡◌, ◌+◌, ◌<◌, ◌↔◌, ◌^◌, ℕ, zero, suc, Bool, true, false, Option, Some, None, List, [], ◌∷◌, ◌++◌, length, map, get_or, refl, sym, ap, ◌∙◌, subst, arith, rules}
 use Rattle.std.specs.Prelude.{All, slice_get, slice_index_or, IsTrue, nat_eq, if◌then◌else◌}
-use Rattle.std.specs.List.{range_with_len}
 use Rattle.std.proofs.lemmas.List.{length-map}
 use Rattle.std.proofs.lemmas.List.FromFn.{get_or-range_with_len, length-range_with_len}
 use Rattle.std.proofs.lemmas.List.Elements.{All-nil, All-cons, All-head, All-tail, All-map, All-append}
@@ -10,8 +9,7 @@ use Rattle.ir_layout.specs.declared.object.Object.{Object}
 use Rattle.ir_layout.specs.Layouts.{LayoutView, IsLayoutOf}
 use Rattle.ir_layout.specs.Sizes.{object_size}
 use Rattle.spec_tree.specs.Plain as plain
-use Rattle.spec_tree.specs.Sorted.{field_sorts}
-use Rattle.spec_tree.specs.Shapes.{IsMemory, IsState, AreNumbers}
+use Rattle.spec_tree.specs.Shapes.{IsMemory}
 use Rattle.spec_tree.specs.View.{view_spec, view_named, view_field, view_transition}
 use Rattle.spec_tree.specs.declared.spec.Spec.{Spec}
 use Rattle.spec_tree.specs.declared.spec.Transition.{Transition}
@@ -19,7 +17,7 @@ use Rattle.spec_tree.specs.Meaning.{abstraction, field_entries}
 use Rattle.ir_check.specs.Checked.{IsChecked}
 use Rattle.ir_kernel.proofs.InitLaws.{inits_fit}
 use Rattle.spec_names.specs.Kernel.{Global}
-use Rattle.spec_kernel.specs.View.{global_of, kernel_of}
+use Rattle.spec_kernel.specs.View.{global_of}
 use Rattle.spec_kernel.specs.Fit.{FitsModule}
 use Rattle.hk_case.specs.declared.Obligation.{Obligation}
 use Rattle.hk_case.specs.declared.Obligation.TheVariants.{Undefined, Invariant, State, ResultValue, Property}

@@ -1,5 +1,5 @@
 -- One part more of a list that is gone through.
-use Rattle.std.proofs.Common.{◌≡◌, ◌+◌, ◌-◌, ◌*◌, ◌^◌, ◌<◌, ◌≤◌, ℕ, zero, suc, min, List, [], ◌∷◌, ◌++◌, length, map, drop, replicate, get_or, refl, sym, ap, ◌∙◌, subst, arith, lit<, mul_assoc, drop-cons, add-one, true}
+use Rattle.std.proofs.Common.{◌≡◌, ◌+◌, ◌-◌, ◌*◌, ◌^◌, ◌<◌, ◌≤◌, ℕ, suc, min, List, [], ◌∷◌, length, map, drop, replicate, get_or, sym, ap, ◌∙◌, arith, lit<, mul_assoc, drop-cons, add-one, true}
 use Rattle.std.specs.Prelude.{sum_by, slice_index_or, None}
 use Rattle.std.proofs.lemmas.List.Sums.{sum_by-cons}
 use Rattle.std.proofs.Math.Nat.{pow-le-pow_right}
@@ -10,7 +10,6 @@ use Rattle.spec_tree.specs.View.{view_key, size_of}
 use Rattle.spec_tree.specs.declared.sort.Sort.{Sort}
 use Rattle.ir_layout.specs.declared.object.Object.{Object}
 use Rattle.spec_value.proofs.Steps.{one_more}
-use Rattle.spec_state.proofs.Turns.{part_at, drop_end, put_one, put_all}
 
 pub fewer : {X : Type 0} (count k : ℕ) (x : X) → k < count → replicate (count - k) x ≡ x ∷ replicate (count - (k + 1)) x
 fewer count k x low =

@@ -1,17 +1,17 @@
 -- The case with a number has the shape of a case.
-use Rattle.std.proofs.Common.{◌≡◌, ◌+◌, ◌*◌, ◌/◌, ◌%◌, ◌^◌, ◌<◌, ◌≤◌, ℕ, zero, suc, Bool, true, false, if◌then◌else◌, List, [], ◌∷◌, length, map, replicate, refl, sym, ap, ◌∙◌, subst, arith}
+use Rattle.std.proofs.Common.{◌≡◌, ◌/◌, ◌%◌, ◌^◌, ◌<◌, ℕ, zero, suc, Bool, true, false, if◌then◌else◌, List, [], ◌∷◌, length, map, replicate, refl, ap, ◌∙◌, arith}
 use Rattle.std.specs.Prelude.{All, Some, slice_get}
 use Rattle.std.proofs.Math.Nat.{mod-lt}
 use Rattle.std.proofs.lemmas.Nat.{pow_pos}
 use Rattle.std.proofs.lemmas.List.Elements.{All-nil, All-cons, All-head, All-tail}
 use Rattle.ir_layout.specs.declared.object.Object.{Object}
 use Rattle.spec_tree.specs.Plain.{Field, Transition, Spec}
-use Rattle.spec_tree.specs.Sorted.{key_sizes, product, sort_of, field_sorts}
-use Rattle.spec_tree.specs.Shapes.{AreNumbers, AreEntries, IsState, IsMemory}
+use Rattle.spec_tree.specs.Sorted.{key_sizes, product, sort_of}
+use Rattle.spec_tree.specs.Shapes.{AreNumbers, IsState, IsMemory}
 use Rattle.hk_case.specs.declared.Obligation.{Obligation}
 use Rattle.hk_case.specs.declared.Obligation.TheVariants.{Undefined, Invariant, State, ResultValue, Property}
-use Rattle.hk_case.specs.Obligations.{IsConstantKept, IsMachineState, IsCase}
-use Rattle.hk_exhaust.specs.Enumeration.{numbers_of, behind, object_widths, object_at, memory_at, behind_memory, field_widths, state_at, behind_state, case_at}
+use Rattle.hk_case.specs.Obligations.{IsMachineState, IsCase}
+use Rattle.hk_exhaust.specs.Enumeration.{numbers_of, behind, object_widths, memory_at, behind_memory, field_widths, state_at, behind_state, case_at}
 
 numbers_fit : (ws : List ℕ) (n : ℕ) → AreNumbers ws (numbers_of ws n)
 numbers_fit [] n = refl

@@ -1,6 +1,6 @@
 -- What tests tell, joined.
-use Rattle.std.proofs.Common.{◌≡◌, ◌≢◌, ◌+◌, ◌<◌, ◌≤◌, ◌&&◌, ℕ, zero, suc, Bool, true, false, not, Option, Some, None, List, [], ◌∷◌, ◌++◌, length, map, refl, sym, ap, ◌∙◌, subst, arith}
-use Rattle.std.specs.Prelude.{All, slice_get, is_some, IsTrue, ◌↔◌}
+use Rattle.std.proofs.Common.{◌≡◌, ◌<◌, ◌&&◌, ℕ, zero, suc, Bool, true, false, not, Some, List, [], ◌∷◌, length, map, refl, sym, ap, ◌∙◌, subst, arith}
+use Rattle.std.specs.Prelude.{All, slice_get}
 use Rattle.std.specs.List.{list_all}
 use Rattle.std.proofs.lemmas.List.{length-map}
 use Rattle.std.proofs.lemmas.List.Elements.{All-nil, All-cons, All-head, All-tail}
@@ -14,8 +14,8 @@ use Rattle.ir_kernel.specs.Ends.{IsEndOfRun, seen}
 use Rattle.ir_kernel.specs.Runs.{CanCall}
 use Rattle.spec_tree.specs.Plain.{Transition, Spec}
 use Rattle.spec_tree.specs.Shapes.{AreNumbers}
-use Rattle.spec_names.specs.Kernel.{ValueType, number, Function}
-use Rattle.spec_kernel.specs.View.{function_of, kernel_of, value_type}
+use Rattle.spec_names.specs.Kernel.{number, Function}
+use Rattle.spec_kernel.specs.View.{function_of, kernel_of}
 use Rattle.spec_kernel.specs.Fit.{FitsModule, Handles}
 use Rattle.spec_tree.specs.Meaning as meaning
 use Rattle.hk_case.specs.declared.Obligation.{Obligation}
@@ -37,6 +37,7 @@ all_told p xs b e = subst (λ c. Tells c (All (λ x. p x ≡ true) xs)) (sym e) 
         on : (d : Bool) → Tells d (All (λ y. p y ≡ true) xs) → Tells d (All (λ y. p y ≡ true) (x ∷ xs))
         on true all = All-cons (λ y. p y ≡ true) x xs e all
         on false none = λ all. none (All-tail (λ y. p y ≡ true) x xs all)
+
     told : {X : Type 0} (p : X → Bool) (xs : List X) → Tells (list_all p xs) (All (λ x. p x ≡ true) xs)
     told p [] = All-nil (λ x. p x ≡ true)
     told p (x ∷ xs) = with p x xs (p x) refl (told p xs)

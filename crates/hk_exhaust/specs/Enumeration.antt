@@ -1,5 +1,5 @@
 -- Every case of an obligation by a number: the bits of the state, then those of the arguments, the low bits first.
-use Rattle.std.specs.Prelude.{ℕ, ◌/◌, ◌%◌, ◌^◌, Bool, if◌then◌else◌, List, [], ◌∷◌, replicate}
+use Rattle.std.specs.Prelude.{ℕ, ◌/◌, ◌%◌, ◌^◌, if◌then◌else◌, List, [], ◌∷◌, replicate}
 use Rattle.ir_layout.specs.declared.object.Object.{Object}
 use Rattle.spec_tree.specs.Plain.{Field, Transition, Spec}
 use Rattle.spec_tree.specs.Sorted.{key_sizes, product}

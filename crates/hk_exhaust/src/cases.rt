@@ -58,11 +58,7 @@ fn take_memory(
 }
 
 // An abstract state.
-fn take_state(
-    alloc: Global,
-    fields: &[Field],
-    rest: &mut u64,
-) -> Result<AbstractState, AllocError>
+fn take_state(alloc: Global, fields: &[Field], rest: &mut u64) -> Result<AbstractState, AllocError>
     requires { All (λ f. IsFieldSort (sort_of f)) (map view_field fields.now) }
     ensures state { IfOk result (λ s. s ≡ state_at (map view_field fields.now) rest.old) }
     ensures behind { OnOk result (rest.new ≡ behind_state (map view_field fields.now) rest.old) }

@@ -23,8 +23,7 @@ use std::alloc::{AllocError, Global};
 // Bytes are below 256.
 fn are_bytes(bytes: &[u8])
     ensures { All (λ b. b < 256) bytes.now }
-{
-}
+{}
 
 /// The bytes of objects are below 256.
 pub(crate) fn holds_bytes(memory: &KMemory, objects: u32)
@@ -61,13 +60,7 @@ fn meets(wanted: Option<u64>, valid: bool, number: u64) -> bool
 {
     match wanted {
         Some(wanted) => number == wanted,
-        None => {
-            if valid {
-                number == 0
-            } else {
-                number != 0
-            }
-        }
+        None => { if valid { number == 0 } else { number != 0 } }
     }
 }
 
@@ -201,9 +194,7 @@ pub(crate) fn misses(
             memory: after,
         } => {
             holds_bytes(after, handler.objects);
-            Ok(misses_returned(
-                alloc, handler, memory, args, o, *value, after,
-            )?)
+            Ok(misses_returned(alloc, handler, memory, args, o, *value, after)?)
         }
         RunEnd::Stuck { .. } => Ok(misses_stuck(o)),
         RunEnd::Lost => Ok(misses_stuck(o)),

@@ -20,11 +20,7 @@ fn low(number: u64, width: u32) -> u64
 fn high(number: u64, width: u32) -> u64
     ensures { result ≡ number / 2 ^ width }
 {
-    if width < 64 {
-        number / (1 << width)
-    } else {
-        0
-    }
+    if width < 64 { number / (1 << width) } else { 0 }
 }
 
 // The low byte.
@@ -70,11 +66,7 @@ pub(crate) fn take_entries(
 }
 
 /// Takes so many bytes, and leaves what is behind them.
-pub(crate) fn take_bytes(
-    alloc: Global,
-    count: u64,
-    rest: &mut u64,
-) -> Result<Vec<u8>, AllocError>
+pub(crate) fn take_bytes(alloc: Global, count: u64, rest: &mut u64) -> Result<Vec<u8>, AllocError>
     ensures bytes { IfOk result (λ v. v.items ≡ numbers_of (replicate count 8) rest.old) }
     ensures behind { OnOk result (rest.new ≡ behind (replicate count 8) rest.old) }
 {

@@ -1,4 +1,4 @@
-use Rattle.std.proofs.Common.{rules, ◌≡◌, ◌+◌, ◌-◌, ◌^◌, ◌<◌, min, sum, map, ap, ◌∙◌, slice_index_or, arith}
+use Rattle.std.proofs.Common.{rules, ◌≡◌, ◌+◌, ◌-◌, ◌^◌, min, sum, map, ap, ◌∙◌, slice_index_or, arith}
 use Rattle.ir_ast.specs.ProgramView.{view_module}
 use Rattle.spec_tree.specs.View.{view_spec, view_field, view_transition}
 use Rattle.hk_case.specs.Obligations as definition

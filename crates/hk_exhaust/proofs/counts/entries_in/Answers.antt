@@ -1,4 +1,4 @@
-use Rattle.std.proofs.Common.{rules, ◌≡◌, ◌<◌, length, map, get_or, arith}
+use Rattle.std.proofs.Common.{rules, ◌<◌, length, map, arith}
 use Rattle.spec_tree.specs.Sorted.{product, key_sizes}
 use Rattle.spec_tree.specs.View.{view_key}
 use Rattle.spec_value.proofs.Steps.{counts_below}

@@ -1,4 +1,4 @@
-use Rattle.std.proofs.Common.{ℕ, ◌≡◌, ◌-◌, ◌+◌, ◌%◌, ◌/◌, ◌^◌, ◌∷◌, replicate, ap, sym, ◌∙◌}
+use Rattle.std.proofs.Common.{ℕ, ◌-◌, ◌+◌, ◌/◌, ◌^◌, ◌∷◌, replicate, ap, sym, ◌∙◌}
 use Rattle.hk_exhaust.specs.Enumeration.{numbers_of, behind}
 use Rattle.spec_state.proofs.Turns.{put_one}
 use Rattle.hk_exhaust.proofs.Parts.{fewer}
@@ -12,6 +12,6 @@ each-preserved c =
     let is = fewer c.args.count c.each.k w c.each-test.true in
     record {
       bytes = put_one c.each.bytes.items _ c.low_byte.result _ _ _ c.in_ok-push.ensures.items
-      (ap (λ l. numbers_of l r) is ∙ ap (λ x. x ∷ numbers_of ws (r / 2 ^ w)) (sym c.low_byte.ensures) ∙ ap (λ n. c.low_byte.result ∷ numbers_of ws n) (sym c.high.ensures)) c.each.invariant.bytes;
+          (ap (λ l. numbers_of l r) is ∙ ap (λ x. x ∷ numbers_of ws (r / 2 ^ w)) (sym c.low_byte.ensures) ∙ ap (λ n. c.low_byte.result ∷ numbers_of ws n) (sym c.high.ensures)) c.each.invariant.bytes;
       behind = ap (behind ws) c.high.ensures ∙ ap (λ l. behind l r) (sym is) ∙ c.each.invariant.behind;
     }

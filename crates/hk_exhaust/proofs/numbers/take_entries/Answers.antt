@@ -1,4 +1,4 @@
-use Rattle.std.proofs.Common.{◌≡◌, ◌-◌, ◌+◌, ◌%◌, ◌/◌, ◌^◌, ◌∷◌, replicate, ap, sym, ◌∙◌}
+use Rattle.std.proofs.Common.{◌-◌, ◌+◌, ◌/◌, ◌^◌, ◌∷◌, replicate, ap, sym, ◌∙◌}
 use Rattle.hk_exhaust.specs.Enumeration.{numbers_of, behind}
 use Rattle.spec_state.proofs.Turns.{put_one}
 use Rattle.hk_exhaust.proofs.Parts.{fewer}
@@ -12,6 +12,6 @@ each-preserved c =
     let is = fewer c.args.count c.each.k w c.each-test.true in
     record {
       numbers = put_one c.each.numbers.items _ c.low.result _ _ _ c.in_ok-push.ensures.items
-      (ap (λ l. numbers_of l r) is ∙ ap (λ x. x ∷ numbers_of ws (r / 2 ^ w)) (sym c.low.ensures) ∙ ap (λ n. c.low.result ∷ numbers_of ws n) (sym c.high.ensures)) c.each.invariant.numbers;
+          (ap (λ l. numbers_of l r) is ∙ ap (λ x. x ∷ numbers_of ws (r / 2 ^ w)) (sym c.low.ensures) ∙ ap (λ n. c.low.result ∷ numbers_of ws n) (sym c.high.ensures)) c.each.invariant.numbers;
       behind = ap (behind ws) c.high.ensures ∙ ap (λ l. behind l r) (sym is) ∙ c.each.invariant.behind;
     }

@@ -1,4 +1,4 @@
-use Rattle.std.proofs.Common.{rules, ◌≡◌, ◌≤◌, ◌-◌, ◌^◌, ◌<◌, Some, min, slice_get, slice_index_or, ap, sym, ◌∙◌, subst, arith}
+use Rattle.std.proofs.Common.{rules, ◌≡◌, ◌≤◌, ◌-◌, ◌^◌, Some, min, slice_get, slice_index_or, ap, ◌∙◌, subst, arith}
 use Rattle.ir_ast.specs.ProgramView.{view_module}
 use Rattle.spec_tree.specs.View.{view_spec, view_transition}
 use Rattle.hk_case.specs.Obligations.{case_bits}

@@ -1,4 +1,4 @@
-use Rattle.std.proofs.Common.{rules, ◌≡◌, ◌↔◌, ◌<◌, subst, sym, slice_index_or}
+use Rattle.std.proofs.Common.{rules, ◌≡◌, ◌↔◌, subst, slice_index_or}
 use Rattle.std.specs.Prelude.{IsTrue}
 use Rattle.ir_ast.specs.ProgramView.{view_module}
 use Rattle.spec_tree.specs.View.{view_spec, view_transition}
