@@ -34,14 +34,19 @@ pub record AreStrays (k : Kernel) (hooks : List Name) (strays : Name → Bool) :
   pub told : (f : Name) → strays f ≡ true → ReachesStray k hooks f
   pub all : (f : Name) → ReachesStray k hooks f → strays f ≡ true
 
--- what the return line of the first equivalence function equates
-abbrev pub equated_at : Here → Item → List (Option ℕ) → List (Option ℕ)
-equated_at h (return_line e) others = if is_equivalence (kind_of h.head) then equated_by h.scope (conjuncts e) else others
-equated_at h _ others = others
+-- what the equivalence function returns, on its return line
+abbrev pub returned : Here → Item → Option Tree
+returned h (return_line e) = if is_equivalence (kind_of h.head) then Some e else None
+returned h _ = None
 
+abbrev pub equated_at : Scope → Option Tree → List (Option ℕ) → List (Option ℕ)
+equated_at s None others = others
+equated_at s (Some e) others = equated_by s (conjuncts e)
+
+-- what the return line of the first equivalence function equates
 abbrev pub equated_from : Here → List Line → List (Option ℕ)
 equated_from h [] = []
-equated_from h (l ∷ ls) = equated_at h l.item (equated_from (behind h l.line l.item) ls)
+equated_from h (l ∷ ls) = equated_at h.scope (returned h l.item) (equated_from (behind h l.line l.item) ls)
 
 abbrev pub text_of : (Name → Bool) → Kernel → List Line → Text
 text_of strays k raw = record { strays = strays; equated = equated_from (begin k raw) raw }

@@ -10,6 +10,7 @@ pub mod function;
 pub mod here;
 pub mod laws;
 pub mod made;
+pub mod passes;
 pub mod sorts;
 pub mod step;
 pub mod values;
