@@ -6,3 +6,7 @@ mod Trees
 mod Finding
 mod Results
 mod Texts
+mod Putting
+mod Least
+mod Arranged
+mod Exits

@@ -12,9 +12,9 @@ use Rattle.spec_tree.specs.Sorted.{FieldSort}
 use Rattle.spec_names.specs.Kernel.{Name}
 use Rattle.spec_scope.specs.declared.meaning.Meaning.{Meaning}
 use Rattle.spec_scope.specs.declared.meaning.Meaning.TheVariants.{Variable, State}
-use Rattle.spec_scope.specs.Scope.{Scope, meaning, field_place, field_sort, is_among, bound_behind}
+use Rattle.spec_scope.specs.Scope.{Scope, meaning, field_place, field_sort, is_among}
 use Rattle.spec_scope.specs.Taking.{chain}
-use Rattle.spec_lines.specs.Behind.{reads_state}
+use Rattle.spec_lines.specs.Behind.{with_once, reads_state}
 
 -- the names of the quantifier's list; the state, the field and its arguments; the right side
 pub record Equation : Type 0 where
@@ -97,14 +97,18 @@ right_one s (Some q) = if is_right s q then Some q else None
 abbrev pub equation_in : Scope → Tree → Option Equation
 equation_in s e = right_one s (equation_of e)
 
--- the variables of the arguments, in the order of the keys
-abbrev pub names_in : List Tree → List Name
-names_in [] = []
-names_in (named x ∷ es) = x ∷ names_in es
-names_in (e ∷ es) = names_in es
+abbrev pub with_argument : List Name → Tree → List Name
+with_argument b (named x) = with_once b x
+with_argument b _ = b
 
+-- these names, and then those of the arguments
+abbrev pub arguments_behind : List Name → List Tree → List Name
+arguments_behind b [] = b
+arguments_behind b (e ∷ es) = arguments_behind (with_argument b e) es
+
+-- the variables of the arguments, in the order of the keys
 abbrev pub key_names : Equation → List Name
-key_names q = bound_behind [] (names_in q.arguments)
+key_names q = arguments_behind [] q.arguments
 
 -- ---- equations by field
 

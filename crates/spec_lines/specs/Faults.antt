@@ -129,7 +129,7 @@ Values = List (Option tree.Tree)
 
 abbrev pub put_value : Option ℕ → Values → tree.Tree → Values
 put_value None values y = values
-put_value (Some place) values y = slice_set values place (Some y)
+put_value (Some place) values y = if nat_lt place (length values) then slice_set values place (Some y) else values
 
 -- with the value that a conjunct gives: the right side of an equation, at the width of its field, over the field's keys; a conjunct that is
 -- no equation is a truth

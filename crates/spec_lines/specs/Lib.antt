@@ -6,3 +6,4 @@ pub mod Whole
 pub mod View
 pub mod Lines
 pub mod MadeView
+pub mod Laws

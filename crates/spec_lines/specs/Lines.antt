@@ -2,14 +2,14 @@
 use Rattle.std.specs.Prelude.{ℕ, Bool, false, ◌||◌, if◌then◌else◌, Option, Some, None, List, [], slice_index_or}
 use Rattle.std.specs.List.{list_any}
 use Rattle.spec_ast.specs.declared.fault.SpecReason.{SpecReason}
-use Rattle.spec_ast.specs.declared.fault.SpecReason.TheVariants.{S5, S6, S8, S9, S10, S11, S12, S13, S14, S15}
+use Rattle.spec_ast.specs.declared.fault.SpecReason.TheVariants.{S5, S6, S7, S8, S9, S10, S11, S12, S13, S14, S15}
 use Rattle.spec_ast.specs.Raw.{Tree, Item}
 use Rattle.spec_ast.specs.Depth.{trees_on}
 use Rattle.spec_names.specs.Kernel.{Name, Kernel, function_place}
 use Rattle.spec_scope.specs.Scope.{Scope}
 use Rattle.spec_scope.specs.Tests.{Findings, somewhere, is_unknown, is_rebound, is_no_leaf, is_wide, is_read}
 use Rattle.spec_lines.specs.Behind.{Here}
-use Rattle.spec_lines.specs.Faults.{Text, is_unknown_line, is_second, is_s9, is_s10, is_s11, is_large_line, is_s13, is_s14, is_s15}
+use Rattle.spec_lines.specs.Faults.{Text, fits_line, is_unknown_line, is_second, is_s9, is_s10, is_s11, is_large_line, is_s13, is_s14, is_s15}
 
 abbrev pub nothing_found : Findings
 nothing_found = record { unknown = false; rebound = false; no_leaf = false; wide = false; reads = false }
@@ -68,3 +68,11 @@ stray_at flags (Some place) = slice_index_or flags place false
 -- strays by the places of functions
 abbrev pub strays_in : Kernel → List Bool → Name → Bool
 strays_in k flags x = stray_at flags (function_place k x)
+
+-- the least reason of a line, by the early one, whether its expressions fit, and the late one
+abbrev pub arranged : Option SpecReason → Bool → Option SpecReason → Option SpecReason
+arranged (Some reason) fits later = Some reason
+arranged None fits later = if fits then later else Some S7
+
+abbrev pub line_fault : Text → Here → Item → Option SpecReason
+line_fault t h item = arranged (early h item (found_on h.scope item)) (fits_line h item) (late t h item (found_on h.scope item))

@@ -24,6 +24,6 @@ view_made m =
     }
 
 -- a line is done and gives this, or it does not fit, and gives nothing
-abbrev pub Makes : {A : Type 0} → Result A TakeStop → plain.Made → Option plain.Made → Type 0
+abbrev pub Makes : {A B : Type 0} → Result A TakeStop → B → Option B → Type 0
 Makes (Ok done) made o = o ≡ Some made
 Makes (Err why) made o = Fails why o

@@ -10,7 +10,7 @@ use Rattle.spec_kernel.specs.Strays.{ReachesStray}
 use Rattle.spec_read.specs.Places.{Function, equivalence, invariant, property}
 use Rattle.spec_scope.specs.declared.meaning.Kind.TheVariants.{Truth, Number}
 use Rattle.spec_scope.specs.Scope.{Declared, Scope, meaning, field_place, field_sort}
-use Rattle.spec_scope.specs.Taking.{chain, one, pair, take}
+use Rattle.spec_scope.specs.Taking.{chain, one, take}
 use Rattle.spec_lines.specs.Behind.{Head, Here, kind_of, is_equivalence, is_handler, width_of_type, types_of, let_kind, skips, behind, begin}
 use Rattle.spec_lines.specs.Equations.{conjuncts, equated_by}
 use Rattle.spec_lines.specs.Faults.{Text, is_new, written_at, result_kind, Values, values_of, fault_of}
@@ -34,14 +34,19 @@ pub record AreStrays (k : Kernel) (hooks : List Name) (strays : Name → Bool) :
   pub told : (f : Name) → strays f ≡ true → ReachesStray k hooks f
   pub all : (f : Name) → ReachesStray k hooks f → strays f ≡ true
 
--- what the return line of the first equivalence function equates
-abbrev pub equated_at : Here → Item → List (Option ℕ) → List (Option ℕ)
-equated_at h (return_line e) others = if is_equivalence (kind_of h.head) then equated_by h.scope (conjuncts e) else others
-equated_at h _ others = others
+-- what the equivalence function returns, on its return line
+abbrev pub returned : Here → Item → Option Tree
+returned h (return_line e) = if is_equivalence (kind_of h.head) then Some e else None
+returned h _ = None
 
+abbrev pub equated_at : Scope → Option Tree → List (Option ℕ) → List (Option ℕ)
+equated_at s None others = others
+equated_at s (Some e) others = equated_by s (conjuncts e)
+
+-- what the return line of the first equivalence function equates
 abbrev pub equated_from : Here → List Line → List (Option ℕ)
 equated_from h [] = []
-equated_from h (l ∷ ls) = equated_at h l.item (equated_from (behind h l.line l.item) ls)
+equated_from h (l ∷ ls) = equated_at h.scope (returned h l.item) (equated_from (behind h l.line l.item) ls)
 
 abbrev pub text_of : (Name → Bool) → Kernel → List Line → Text
 text_of strays k raw = record { strays = strays; equated = equated_from (begin k raw) raw }
@@ -154,15 +159,21 @@ transition_with h lines c head place valid result =
       result_width = result_width h.result;
     }
 
+abbrev pub with_transition : Here → Made → Name → Head → ℕ → tree.Tree → Option tree.Tree → Made
+with_transition h m c head place valid result =
+    record m { transitions = m.transitions ++ transition_with h m.lines c head place valid result ∷ []; lines = [] }
+
 -- a return line of anything but a handler with a function of the kernel adds nothing
 abbrev pub head_made : Here → Made → Name → tree.Tree → Option tree.Tree → Head → Option ℕ → Made
 head_made h m c valid result head None = m
-head_made h m c valid result head (Some place) =
-    if is_handler head.kind then record m { transitions = m.transitions ++ transition_with h m.lines c head place valid result ∷ []; lines = [] } else m
+head_made h m c valid result head (Some place) = if is_handler head.kind then with_transition h m c head place valid result else m
 
 abbrev pub end_made : Here → Made → Name → tree.Tree → Option tree.Tree → Option Head → Made
 end_made h m c valid result None = m
 end_made h m c valid result (Some head) = head_made h m c valid result head head.place
+
+abbrev pub ended : Here → Made → Tree → Name → Option Tree → Option Made
+ended h m e c r = chain (take h.scope [] Truth e) (λ valid. one (λ y. end_made h m c valid y h.head) (result_made h r))
 
 -- behind a line
 abbrev pub made_behind : Here → Made → Item → Option Made
@@ -170,7 +181,7 @@ made_behind h m (def_line x parameters) = Some (record m { locals = []; lines = 
 made_behind h m (let_line x e) = let_made h m e
 made_behind h m (write_line c f at e) = written h.scope m f at e
 made_behind h m (return_line e) = return_made (kind_of h.head) h.scope m e
-made_behind h m (end_line e c r) = chain (pair (take h.scope [] Truth e) (result_made h r)) (λ p. Some (end_made h m c p.0 p.1 h.head))
+made_behind h m (end_line e c r) = ended h m e c r
 made_behind h m _ = Some m
 
 abbrev pub made_from : Here → Made → List Line → Option Made

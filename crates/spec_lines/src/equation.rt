@@ -98,9 +98,7 @@ fn is_key(key: &Sort, meaning: Option<Meaning>) -> bool
     ensures { result ≡ definition.is_key (view_key key.now) meaning }
 {
     match meaning {
-        Some(Meaning::Variable(width, size)) => {
-            key.width == width && key_size(key) == size
-        }
+        Some(Meaning::Variable(width, size)) => { key.width == width && key_size(key) == size }
         _ => false,
     }
 }

@@ -259,17 +259,15 @@ fn is_no_equation(alloc: Global, here: &Here<'_>, e: &RawExpr) -> Result<bool, A
 }
 
 /// Whether a field has not exactly one equation, or a conjunct of the equivalence function is none.
-fn is_s9(
-    alloc: Global,
-    text: &Text,
-    here: &Here<'_>,
-    item: &RawItem,
-) -> Result<bool, AllocError>
+fn is_s9(alloc: Global, text: &Text, here: &Here<'_>, item: &RawItem) -> Result<bool, AllocError>
     ensures { IfOk result (λ b. b ≡ definition.is_s9 (view_text here.now.scope.kernel.now text.now) (view_here here.now) (view_item item.now)) }
 {
     match item {
         RawItem::Field(name, _, _) => {
-            Ok(!is_once(here.scope.fields.place(name.as_bytes()), text.equated.as_slice()))
+            Ok(!is_once(
+                here.scope.fields.place(name.as_bytes()),
+                text.equated.as_slice(),
+            ))
         }
         RawItem::Return(e) => is_no_equation(alloc, here, e),
         _ => Ok(false),
@@ -354,12 +352,7 @@ fn is_large_line(alloc: Global, here: &Here<'_>, item: &RawItem) -> Result<bool,
 }
 
 /// Whether the line has too many entries or index tuples.
-fn is_s12(
-    alloc: Global,
-    here: &Here<'_>,
-    item: &RawItem,
-    wide: bool,
-) -> Result<bool, AllocError>
+fn is_s12(alloc: Global, here: &Here<'_>, item: &RawItem, wide: bool) -> Result<bool, AllocError>
     ensures { IfOk result (λ b. b ≡ (definition.is_large_line (view_here here.now) (view_item item.now) || wide)) }
 {
     if wide {

@@ -83,12 +83,7 @@ fn last(alloc: Global, scope: &Scope<'_>, e: &RawExpr) -> Result<Findings, Alloc
 }
 
 /// What two expressions are found to be.
-fn both(
-    alloc: Global,
-    scope: &Scope<'_>,
-    e: &RawExpr,
-    r: &RawExpr,
-) -> Result<Findings, AllocError>
+fn both(alloc: Global, scope: &Scope<'_>, e: &RawExpr, r: &RawExpr) -> Result<Findings, AllocError>
     ensures { IfOk result (λ f. view_findings f ≡ found_among (view_scope scope.now) (view_expr e.now ∷ view_expr r.now ∷ [])) }
 {
     let first = found_in(alloc, scope, e)?;

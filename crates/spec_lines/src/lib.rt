@@ -8,9 +8,12 @@ pub mod findings;
 pub mod fore;
 pub mod function;
 pub mod here;
+pub mod laws;
 pub mod made;
+pub mod passes;
 pub mod sorts;
 pub mod step;
+pub mod values;
 
 pub use function::FunctionKind;
 pub use here::{Head, Here};

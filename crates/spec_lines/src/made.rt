@@ -22,11 +22,13 @@ use crate::faults::is_new;
 use crate::function::FunctionKind;
 use crate::here::{Head, Here, is_equivalence, is_handler};
 use crate::step::{let_kind, skips, types_of, width_of};
-use spec_kernel::ValueType;
 use spec_ast::{Name, RawExpr, RawExprs, RawItem};
+use spec_kernel::ValueType;
 use spec_scope::{BoundNames, FieldSort, Kind, Scope, TakeStop};
 use spec_take::{OwnKind, indices, own, take};
-use spec_tree::{Body, Expr, ExprList, Field, Line, LineList, Named, SizeList, Sort, Transition, Write};
+use spec_tree::{
+    Body, Expr, ExprList, Field, Line, LineList, Named, SizeList, Sort, Transition, Write,
+};
 use std::alloc::{AllocError, Global};
 use std::mem;
 
@@ -58,7 +60,7 @@ pub fn nothing_made(alloc: Global) -> Made
 }
 
 /// What an expression stands for where no variable is bound.
-fn take_alone(
+pub fn take_alone(
     alloc: Global,
     scope: &Scope<'_>,
     kind: Kind,
@@ -150,7 +152,12 @@ fn no_indices(alloc: Global, keys: &[Sort]) -> Result<ExprList, TakeStop>
 
 impl Made {
     /// Adds a write.
-    fn add_write(&mut self, place: Option<u32>, index: ExprList, value: Expr) -> Result<(), TakeStop>
+    fn add_write(
+        &mut self,
+        place: Option<u32>,
+        index: ExprList,
+        value: Expr,
+    ) -> Result<(), TakeStop>
         ensures { Makes result (view_made self.new) (definition.write_at place (view_made self.old) (view_expr_list index) (view_expr value)) }
     {
         match place {
@@ -331,4 +338,93 @@ fn transition_with(
         result: r,
         result_width: result_width(here.result),
     })
+}
+
+impl Made {
+    /// Adds a transition.
+    fn add_transition(
+        &mut self,
+        alloc: Global,
+        here: &Here<'_>,
+        state: &[u8],
+        head: &Head<'_>,
+        place: u32,
+        valid: Expr,
+        r: Option<Expr>,
+    ) -> Result<(), AllocError>
+        ensures { OnOk result (view_made self.new ≡ definition.with_transition (view_here here.now) (view_made self.old) state.now (view_head head.now) place (view_expr valid) (option_map view_expr r)) }
+    {
+        let lines = mem::replace(&mut self.lines, Vec::new(alloc));
+        let made = transition_with(alloc, here, lines, state, head, place, valid, r)?;
+        self.transitions.push(made)?;
+        Ok(())
+    }
+
+    /// Adds a transition, where the function is a handler that the kernel has.
+    fn add_headed(
+        &mut self,
+        alloc: Global,
+        here: &Here<'_>,
+        state: &[u8],
+        head: &Head<'_>,
+        valid: Expr,
+        r: Option<Expr>,
+    ) -> Result<(), AllocError>
+        ensures { OnOk result (view_made self.new ≡ definition.head_made (view_here here.now) (view_made self.old) state.now (view_expr valid) (option_map view_expr r) (view_head head.now) head.now.place) }
+    {
+        match head.place {
+            Some(place) => {
+                if is_handler(head.kind) {
+                    self.add_transition(alloc, here, state, head, place, valid, r)
+                } else {
+                    drop(valid);
+                    drop(r);
+                    Ok(())
+                }
+            }
+            None => {
+                drop(valid);
+                drop(r);
+                Ok(())
+            }
+        }
+    }
+
+    /// Adds a transition, where a handler goes on.
+    fn add_end(
+        &mut self,
+        alloc: Global,
+        here: &Here<'_>,
+        state: &[u8],
+        valid: Expr,
+        r: Option<Expr>,
+    ) -> Result<(), AllocError>
+        ensures { OnOk result (view_made self.new ≡ definition.end_made (view_here here.now) (view_made self.old) state.now (view_expr valid) (option_map view_expr r) (option_map view_head here.now.head)) }
+    {
+        match &here.head {
+            Some(head) => self.add_headed(alloc, here, state, head, valid, r),
+            None => {
+                drop(valid);
+                drop(r);
+                Ok(())
+            }
+        }
+    }
+
+    /// Behind the return line of a transition.
+    fn at_end(
+        &mut self,
+        alloc: Global,
+        here: &Here<'_>,
+        e: &RawExpr,
+        state: &[u8],
+        r: &Option<RawExpr>,
+    ) -> Result<(), TakeStop>
+        ensures { Makes result (view_made self.new) (definition.ended (view_here here.now) (view_made self.old) (view_raw e.now) state.now (option_map view_raw r.now)) }
+    {
+        let valid = take_alone(alloc, &here.scope, Kind::Truth, e)?;
+        let r = result_made(alloc, here, r)?;
+        self.add_end(alloc, here, state, valid, r)?;
+        Ok(())
+    }
 }

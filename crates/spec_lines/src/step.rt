@@ -10,10 +10,12 @@ ghost use Rattle.spec_scope.specs.View.{view_scope};
 ghost use Rattle.spec_lines.specs.Behind as definition;
 ghost use Rattle.spec_lines.specs.View.{view_kind, view_here, within_told};
 
-use crate::function::{FunctionKind, function_of};
 use crate::findings::found_in;
+use crate::function::{FunctionKind, function_of};
 use crate::here::{Head, Here, is_equivalence, is_handler};
-use crate::sorts::{entries_behind, entries_of, field_sort_for, key_for, sort_for, sort_meaning, variable_meaning};
+use crate::sorts::{
+    entries_behind, entries_of, field_sort_for, key_for, sort_for, sort_meaning, variable_meaning,
+};
 use spec_ast::{Name, RawExpr, RawItem, RawSort};
 use spec_kernel::{KernelNames, ValueType};
 use spec_scope::{Kind, Meaning, NameTable, Scope};
