@@ -1,0 +1,8 @@
+pub mod FileLaws
+pub mod Sizes
+pub mod Growing
+pub mod Covering
+pub mod StepLaws
+pub mod SpanLaws
+pub mod LoadLaws
+pub mod TurnLaws

@@ -1,0 +1,7 @@
+use Rattle.std.proofs.Common.{subst}
+use Rattle.ir_machine.specs.Values as definition
+use Rattle.hk_symstep.specs.Steps.{AnswersComputed}
+use Rattle.hk_symstep.proofs.acts.assume.Goals as goal
+
+pub returns-clause-answers : goal.returns-clause-answers
+returns-clause-answers g c = λ v. subst (λ x. AnswersComputed c.assume.new.t v c.in_ok-made.made (definition.assumed x)) (c.in_ok-value.ensures.value v) (c.in_ok-made.ensures.answers v)
