@@ -171,8 +171,8 @@ module _ (P : Program) (f from to : ℕ) (t0 t1 t2 : List Node) (grown : Extends
       (leaves P f from to (seen t1 v x) (memory_at t1 m v) go e (is_true t1 condition v) (registers_of t2 v y.file)
       (λ off rs w. away rs off w)
       (λ on rs w ps q. subst (λ l. IsWithin (set_all l rs) (registers_of t2 v y.file))
-          (some_is (phis_meaning t1 v phis) ps (covered rs ps (subst (IsWithin rs) (registers_kept t0 t1 grown x.file state.file v) w) (subst (λ k. staged k rs from (steps_of P f to) [] ≡ Some ps) (memory_kept t0 t1 grown m over v) q)))
-          (here rs on w))
+      (some_is (phis_meaning t1 v phis) ps (covered rs ps (subst (IsWithin rs) (registers_kept t0 t1 grown x.file state.file v) w) (subst (λ k. staged k rs from (steps_of P f to) [] ≡ Some ps) (memory_kept t0 t1 grown m over v) q)))
+      (here rs on w))
       told)
 
 -- ---- returns and stores

@@ -9,6 +9,7 @@ mod blocks;
 mod calls;
 mod entries;
 mod exec;
+mod instructions;
 mod jumps;
 mod leads;
 mod marks;
