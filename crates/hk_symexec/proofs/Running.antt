@@ -1,5 +1,7 @@
 -- Instructions and blocks one after the other.
-use Rattle.std.proofs.Common.{◌≡◌, ◌<◌, ◌≤◌, ◌+◌, ◌-◌, ℕ, zero, suc, Bool, true, false, Option, Some, None, List, [], ◌∷◌, take, length, slice_index_or, refl, sym, ap, ◌∙◌, subst, arith}
+use Rattle.std.proofs.Common.{◌≡◌, ◌<◌, ◌≤◌, ◌+◌, ◌-◌, ℕ, zero, suc, Bool, true, false, Option, Some, None, List, [], ◌∷◌, take, length, slice_get, slice_index_or, refl, sym, ap, ◌∙◌, subst, arith}
+use Rattle.std.specs.Option.{unwrap_or}
+use Rattle.std.proofs.lemmas.Option.{none-some}
 use Rattle.hk_term.specs.Meaning.{Reading}
 use Rattle.hk_term.specs.declared.node.Node.{Node}
 use Rattle.ir_layout.specs.declared.object.Object as laid
@@ -83,3 +85,9 @@ take_all zero [] l = refl
 take_all (suc i) [] l = refl
 take_all zero (x ∷ xs) l = absurd (omega (arith, l))
 take_all (suc i) (x ∷ xs) l = ap (λ ys. x ∷ ys) (take_all i xs (omega (arith, l)))
+
+pub got_or : {X : Type 0} (xs : List X) (i : ℕ) (x d : X) → slice_get xs i ≡ Some x → slice_index_or xs i d ≡ x
+got_or [] zero x d e = absurd (none-some x e)
+got_or [] (suc i) x d e = absurd (none-some x e)
+got_or (y ∷ ys) zero x d e = ap (λ o. unwrap_or o y) e
+got_or (y ∷ ys) (suc i) x d e = got_or ys i x d e

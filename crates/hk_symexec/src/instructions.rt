@@ -1,34 +1,34 @@
-//! Instructions that neither write to memory nor lead elsewhere.
+//! Instructions that are no calls.
 
 ghost use Rattle.std.specs.Prelude.{◌≡◌, ℕ, true, false, Bool, List, IfOk};
 ghost use Rattle.hk_term.specs.Meaning.{Reading};
 ghost use Rattle.ir_value.specs.declared.value.StuckReason.TheVariants as u;
 ghost use Rattle.ir_code.specs.declared.program.Program.{Program};
 ghost use Rattle.ir_machine.specs.declared.state.End.TheVariants.{Stuck};
-ghost use Rattle.ir_machine.specs.Values as values;
 ghost use Rattle.ir_machine.specs.Values.{value_of, held_at};
 ghost use Rattle.ir_machine.specs.Step as machine;
-ghost use Rattle.ir_walk.specs.Walk.{Behind, Stops, on_computed, on_slot};
+ghost use Rattle.ir_walk.specs.Walk.{Callee, Behind, Stops, on_slot, walk_act};
 ghost use Rattle.hk_symvalue.specs.Growth.{Extends};
 ghost use Rattle.hk_symmem.specs.Guarded.{memory_at, IsOver, IsMemoryOf};
 ghost use Rattle.hk_symaccess.specs.Accesses.{AreWhole, FitsMemory};
 ghost use Rattle.hk_symexec.specs.Seen.{IsExec, seen};
-ghost use Rattle.hk_symexec.specs.Tracks.{Ending, Tracks};
+ghost use Rattle.hk_symexec.specs.Tracks.{Ending, Tracks, is_call, is_computed};
 
 use crate::exec::Exec;
+use crate::leads::{branch, goto, switch};
+use crate::returns::{give_back, store};
 use crate::settle::{settle, settle_passes, settle_slot};
 use crate::truths;
-use hk_seq::Seq;
 use hk_symmem::{InitialReads, SymMemory};
 use hk_symstep::{computed, stored_slot};
 use hk_term::Terms;
-use ir_code::{Input, Object, Step};
+use ir_code::{Act, Input, Program, Step};
 use ir_layout::Layout;
 use std::alloc::{AllocError, Global};
 
-#[tactic(auto, using(crate::proofs::Kept::over_kept, crate::proofs::Kept::exec_kept))]
 /// Where the run is here it is stuck.
-pub(crate) fn unreachable<R: InitialReads>(
+#[tactic(auto, using(crate::proofs::Kept::over_kept, crate::proofs::Kept::exec_kept))]
+fn unreachable<R: InitialReads>(
     t: &mut Terms,
     memory: &SymMemory<R>,
     x: Exec,
@@ -47,9 +47,9 @@ pub(crate) fn unreachable<R: InitialReads>(
     Ok(made)
 }
 
-#[tactic(auto, using(crate::proofs::Kept::over_kept, crate::proofs::Kept::exec_kept))]
 /// A store into a slot.
-pub(crate) fn store_slot<R: InitialReads>(
+#[tactic(auto, using(crate::proofs::Kept::over_kept, crate::proofs::Kept::exec_kept))]
+fn store_slot<R: InitialReads>(
     t: &mut Terms,
     layout: &Layout,
     memory: &SymMemory<R>,
@@ -74,27 +74,131 @@ pub(crate) fn store_slot<R: InitialReads>(
     Ok(made)
 }
 
-#[tactic(auto, using(crate::proofs::Kept::over_kept, crate::proofs::Kept::exec_kept))]
 /// An instruction that neither writes nor leads elsewhere.
-pub(crate) fn compute<R: InitialReads>(
+#[tactic(auto, using(crate::proofs::Kept::over_kept, crate::proofs::Kept::exec_kept))]
+fn compute<R: InitialReads>(
     alloc: Global,
     t: &mut Terms,
     layout: &Layout,
-    objects: &Seq<Object>,
+    program: &Program,
     memory: &SymMemory<R>,
     x: Exec,
     step: &Step,
 ) -> Result<Exec, AllocError>
-    requires fits { FitsMemory layout.now.objects objects.now memory.now }
+    requires computed { is_computed step.now.act ≡ true }
+    requires fits { FitsMemory layout.now.objects program.now.objects memory.now }
     requires over { IsOver t.old memory.now }
     requires state { IsExec t.old x }
     ensures frame { Extends t.old t.new }
     ensures within { IfOk result (λ y. IsExec t.new y) }
-    ensures tracks { IfOk result (λ y. (P : Program) (f : ℕ) (v : Reading) (go : Behind) (e : Ending) →
-        Tracks P f (seen t.old v x) (memory_at t.old memory.now v) (λ rs m. on_computed step.now rs m go (values.computed m objects.now rs step.now.act)) e →
-        Tracks P f (seen t.new v y) (memory_at t.new memory.now v) go e) }
+    ensures tracks { IfOk result (λ y. (W : Callee) (f b : ℕ) (v : Reading) (go : Behind) (e : Ending) →
+        Tracks program.now f (seen t.old v x) (memory_at t.old memory.now v) (λ rs m. walk_act W program.now f b step.now rs m go step.now.act) e →
+        Tracks program.now f (seen t.new v y) (memory_at t.new memory.now v) go e) }
 {
-    let given = computed(alloc, t, layout, objects, memory, &x.file, &step.act)?;
+    let given = computed(
+        alloc,
+        t,
+        layout,
+        &program.objects,
+        memory,
+        &x.file,
+        &step.act,
+    )?;
     let made = settle(t, x, step, given)?;
     Ok(made)
+}
+
+/// An instruction that is no call.
+#[tactic(auto, using(crate::proofs::Kept::over_kept, crate::proofs::Kept::exec_kept))]
+pub(crate) fn plain<R: InitialReads>(
+    alloc: Global,
+    t: &mut Terms,
+    layout: &Layout,
+    program: &Program,
+    memory: &mut SymMemory<R>,
+    x: Exec,
+    function: u32,
+    block: u32,
+    step: &Step,
+) -> Result<Exec, AllocError>
+    requires plain { is_call step.now.act ≡ false }
+    requires fits { FitsMemory layout.now.objects program.now.objects memory.old }
+    requires over { IsOver t.old memory.old }
+    requires state { IsExec t.old x }
+    ensures frame { Extends t.old t.new }
+    ensures origins { memory.new.origins ≡ memory.old.origins }
+    ensures within { IfOk result (λ y. IsExec t.new y) }
+    ensures over { IfOk result (λ y. IsOver t.new memory.new) }
+    ensures tracks { IfOk result (λ y. (W : Callee) (v : Reading) (go : Behind) (e : Ending) →
+        Tracks program.now function (seen t.old v x) (memory_at t.old memory.old v) (λ rs m. walk_act W program.now function block step.now rs m go step.now.act) e →
+        Tracks program.now function (seen t.new v y) (memory_at t.new memory.new v) go e) }
+{
+    match &step.act {
+        Act::Store {
+            bytes,
+            align,
+            value,
+            address,
+        } => {
+            let made = store(
+                t,
+                layout,
+                &program.objects,
+                memory,
+                x,
+                *bytes,
+                *align,
+                value,
+                address,
+            )?;
+            Ok(made)
+        }
+        Act::StoreSlot { align, value, slot } => {
+            let made = store_slot(t, layout, memory, x, step.line, *align, value, *slot)?;
+            Ok(made)
+        }
+        Act::Goto { block: to } => {
+            let made = goto(alloc, t, layout, program, memory, x, function, block, *to)?;
+            Ok(made)
+        }
+        Act::Branch { condition, yes, no } => {
+            let made = branch(
+                alloc, t, layout, program, memory, x, function, block, condition, *yes, *no,
+            )?;
+            Ok(made)
+        }
+        Act::Switch {
+            on,
+            cases,
+            default,
+            ..
+        } => {
+            let made = switch(
+                alloc,
+                t,
+                layout,
+                program,
+                memory,
+                x,
+                function,
+                block,
+                on,
+                cases.as_slice(),
+                *default,
+            )?;
+            Ok(made)
+        }
+        Act::Return { value } => {
+            let made = give_back(t, layout, memory, x, value)?;
+            Ok(made)
+        }
+        Act::Unreachable => {
+            let made = unreachable(t, memory, x)?;
+            Ok(made)
+        }
+        _ => {
+            let made = compute(alloc, t, layout, program, memory, x, step)?;
+            Ok(made)
+        }
+    }
 }

@@ -15,6 +15,7 @@ mod leads;
 mod marks;
 mod phis;
 mod returns;
+mod run;
 mod settle;
 mod truths;
 
