@@ -39,7 +39,7 @@ mark_in old new grown entries a to both before c v at e =
     ∙ ap (λ l. slice_set l to (is_true new both v)) (entries_kept old new grown entries a v)
     ∙ ap (λ b. slice_set (entries_seen old v entries) to b) (e ∙ ap (λ b. b || c) (sym (seen_at (λ k. is_true old k v) entries to before at)))
 
-long_seen : (nodes : List Node) (v : Reading) (entries : List ℕ) → length (entries_seen nodes v entries) ≡ length entries
+pub long_seen : (nodes : List Node) (v : Reading) (entries : List ℕ) → length (entries_seen nodes v entries) ≡ length entries
 long_seen nodes v [] = refl
 long_seen nodes v (x ∷ xs) = ap suc (long_seen nodes v xs)
 

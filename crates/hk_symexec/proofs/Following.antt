@@ -85,28 +85,30 @@ sticks P f s memory one go e b split h fine = by (h fine)
   where
     at : (b : Bool) (rs : Registers) → Shows (length (body_of P f)) s Here → IsWithin rs s.registers → e ≡ On (one rs memory) → Splits b (one rs memory) (go rs memory)
         → Somewhere P f (stuck_where b s) memory go e
-    at true rs sh w q (reason, line, same) =
-        (Halted,
-        record {
-          size = sh.size;
-          guard = ap (λ g. g && false) sh.guard;
-          entries = sh.entries;
-          back = sh.back;
-          valued = sh.valued;
-          stuck = ap (λ g. s.stuck || (g && true)) sh.guard ∙ or_true s.stuck;
-        },
-        (reason, line, q ∙ ap On same))
-    at false rs sh w q same =
-        (Here,
-        record {
-          size = sh.size;
-          guard = ap (λ g. g && true) sh.guard;
-          entries = sh.entries;
-          back = sh.back;
-          valued = sh.valued;
-          stuck = ap (λ g. s.stuck || (g && false)) sh.guard ∙ or_false s.stuck ∙ sh.stuck;
-        },
-        (rs, w, q ∙ ap On same))
+    at true rs sh w q (reason, line, same) = (
+      Halted,
+      record {
+        size = sh.size;
+        guard = ap (λ g. g && false) sh.guard;
+        entries = sh.entries;
+        back = sh.back;
+        valued = sh.valued;
+        stuck = ap (λ g. s.stuck || (g && true)) sh.guard ∙ or_true s.stuck;
+      },
+      (reason, line, q ∙ ap On same),
+    )
+    at false rs sh w q same = (
+      Here,
+      record {
+        size = sh.size;
+        guard = ap (λ g. g && true) sh.guard;
+        entries = sh.entries;
+        back = sh.back;
+        valued = sh.valued;
+        stuck = ap (λ g. s.stuck || (g && false)) sh.guard ∙ or_false s.stuck ∙ sh.stuck;
+      },
+      (rs, w, q ∙ ap On same),
+    )
 
     by : Somewhere P f s memory one e → Somewhere P f (stuck_where b s) memory go e
     by (Absent k, sh, st) = (Absent k, stuck_off (length (body_of P f)) s b (Absent k) refl sh, st)
@@ -244,9 +246,11 @@ module _ (P : Program) (f from to : ℕ) (s : Seen) (memory : Memory) (go : Behi
 
   away : (p : Phase) → is_here p ≡ false → Shows blocks s p → Stands P f s.registers s.value memory (λ rs m. if b then on_jump P f from to rs m else go rs m) p e → Somewhere P f left memory go e
   away p n sh st =
-      let q : s.guard ≡ false = sh.guard ∙ n in
-      (p, stays p (ap (λ g. g && b) q) (ap (λ g. g && not b) q ∙ sym n) sh,
-      elsewhere P f s.registers new s.value s.value memory (λ rs m. if b then on_jump P f from to rs m else go rs m) go p e n (keep (ap (λ g. g && b) q)) (λ w q. q) st)
+      let q : s.guard ≡ false = sh.guard ∙ n in (
+        p,
+        stays p (ap (λ g. g && b) q) (ap (λ g. g && not b) q ∙ sym n) sh,
+        elsewhere P f s.registers new s.value s.value memory (λ rs m. if b then on_jump P f from to rs m else go rs m) go p e n (keep (ap (λ g. g && b) q)) (λ w q. q) st,
+      )
 
   goes : (g : s.guard ≡ true) → Shows blocks s Here → b ≡ true → Shows blocks left (Going to)
   goes g sh q = record {
@@ -269,9 +273,11 @@ module _ (P : Program) (f from to : ℕ) (s : Seen) (memory : Memory) (go : Behi
     where
       by : (o : Option (List (ℕ × Value))) → staged memory rs from (steps_of P f to) [] ≡ o → e ≡ On (on_entry to rs memory o) → Somewhere P f left memory go e
       by None r same = absurd (subst IsFine same fine)
-      by (Some ps) r same =
-          (Going to, goes sh.guard sh q,
-          (set_all ps rs, length ps, enter (ap (λ x. x && b) sh.guard ∙ q) rs w ps r, inl (heads_staged memory rs from (steps_of P f to) [] ps r ∙ none (heads P f to)), same))
+      by (Some ps) r same = (
+        Going to,
+        goes sh.guard sh q,
+        (set_all ps rs, length ps, enter (ap (λ x. x && b) sh.guard ∙ q) rs w ps r, inl (heads_staged memory rs from (steps_of P f to) [] ps r ∙ none (heads P f to)), same),
+      )
         where
           none : (n : ℕ) → 0 + n ≡ n
           none n = omega arith
@@ -296,31 +302,33 @@ unfolding Tracks
 comes_back P f s memory one go e same h fine = by (h fine)
   where
     away : (p : Phase) → is_here p ≡ false → Shows (length (body_of P f)) s p → Stands P f s.registers s.value memory one p e → Somewhere P f (back_without s) memory go e
-    away p n sh st =
-        (p,
-        record {
-          size = sh.size;
-          guard = sym n;
-          entries = sh.entries;
-          back = ap (λ g. s.back || g) (sh.guard ∙ n) ∙ or_false s.back ∙ sh.back;
-          valued = sh.valued;
-          stuck = sh.stuck;
-        },
-        elsewhere P f s.registers s.registers s.value s.value memory one go p e n (λ rs w. w) (λ w q. q) st)
+    away p n sh st = (
+      p,
+      record {
+        size = sh.size;
+        guard = sym n;
+        entries = sh.entries;
+        back = ap (λ g. s.back || g) (sh.guard ∙ n) ∙ or_false s.back ∙ sh.back;
+        valued = sh.valued;
+        stuck = sh.stuck;
+      },
+      elsewhere P f s.registers s.registers s.value s.value memory one go p e n (λ rs w. w) (λ w q. q) st,
+    )
 
     by : Somewhere P f s memory one e → Somewhere P f (back_without s) memory go e
     by (Absent k, sh, st) = away (Absent k) refl sh st
-    by (Here, sh, (rs, w, q)) =
-        (Came None,
-        record {
-          size = sh.size;
-          guard = refl;
-          entries = sh.entries;
-          back = ap (λ g. s.back || g) sh.guard ∙ or_true s.back;
-          valued = sh.valued;
-          stuck = sh.stuck;
-        },
-        (tt, q ∙ ap On (same rs)))
+    by (Here, sh, (rs, w, q)) = (
+      Came None,
+      record {
+        size = sh.size;
+        guard = refl;
+        entries = sh.entries;
+        back = ap (λ g. s.back || g) sh.guard ∙ or_true s.back;
+        valued = sh.valued;
+        stuck = sh.stuck;
+      },
+      (tt, q ∙ ap On (same rs)),
+    )
     by (Going to, sh, st) = away (Going to) refl sh st
     by (Came x, sh, st) = away (Came x) refl sh st
     by (Halted, sh, st) = away Halted refl sh st
@@ -334,31 +342,33 @@ unfolding Tracks
 comes_with P f s memory one go e held x same now kept h fine = by (h fine)
   where
     away : (p : Phase) → is_here p ≡ false → Shows (length (body_of P f)) s p → Stands P f s.registers s.value memory one p e → Somewhere P f (back_with held s) memory go e
-    away p n sh st =
-        (p,
-        record {
-          size = sh.size;
-          guard = sym n;
-          entries = sh.entries;
-          back = ap (λ g. s.back || g) (sh.guard ∙ n) ∙ or_false s.back ∙ sh.back;
-          valued = ap (λ g. s.valued || g) (sh.guard ∙ n) ∙ or_false s.valued ∙ sh.valued;
-          stuck = sh.stuck;
-        },
-        elsewhere P f s.registers s.registers s.value held memory one go p e n (λ rs w. w) (kept (sh.guard ∙ n)) st)
+    away p n sh st = (
+      p,
+      record {
+        size = sh.size;
+        guard = sym n;
+        entries = sh.entries;
+        back = ap (λ g. s.back || g) (sh.guard ∙ n) ∙ or_false s.back ∙ sh.back;
+        valued = ap (λ g. s.valued || g) (sh.guard ∙ n) ∙ or_false s.valued ∙ sh.valued;
+        stuck = sh.stuck;
+      },
+      elsewhere P f s.registers s.registers s.value held memory one go p e n (λ rs w. w) (kept (sh.guard ∙ n)) st,
+    )
 
     by : Somewhere P f s memory one e → Somewhere P f (back_with held s) memory go e
     by (Absent k, sh, st) = away (Absent k) refl sh st
-    by (Here, sh, (rs, w, q)) =
-        (Came (Some x),
-        record {
-          size = sh.size;
-          guard = refl;
-          entries = sh.entries;
-          back = ap (λ g. s.back || g) sh.guard ∙ or_true s.back;
-          valued = ap (λ g. s.valued || g) sh.guard ∙ or_true s.valued;
-          stuck = sh.stuck;
-        },
-        (now sh.guard, q ∙ ap On (same rs)))
+    by (Here, sh, (rs, w, q)) = (
+      Came (Some x),
+      record {
+        size = sh.size;
+        guard = refl;
+        entries = sh.entries;
+        back = ap (λ g. s.back || g) sh.guard ∙ or_true s.back;
+        valued = ap (λ g. s.valued || g) sh.guard ∙ or_true s.valued;
+        stuck = sh.stuck;
+      },
+      (now sh.guard, q ∙ ap On (same rs)),
+    )
     by (Going to, sh, st) = away (Going to) refl sh st
     by (Came y, sh, st) = away (Came y) refl sh st
     by (Halted, sh, st) = away Halted refl sh st

@@ -9,15 +9,18 @@ use Rattle.ir_value.specs.declared.value.Value.{Value}
 use Rattle.ir_value.specs.declared.value.Value.TheVariants.{Number, Null, Address, Poison}
 use Rattle.ir_value.specs.declared.value.StuckReason.TheVariants as u
 use Rattle.ir_code.specs.declared.act.Case.{Case}
+use Rattle.ir_code.specs.declared.act.Step.{Step}
+use Rattle.ir_code.specs.declared.act.Act.{Act}
+use Rattle.ir_code.specs.declared.act.Act.TheVariants as act
 use Rattle.ir_code.specs.declared.program.Program.{Program}
 use Rattle.ir_machine.specs.declared.state.Target.TheVariants as target
 use Rattle.ir_machine.specs.declared.state.Written.{Written}
 use Rattle.ir_machine.specs.declared.state.Written.TheVariants as written
 use Rattle.hk_symaccess.specs.Accesses.{Stores}
 use Rattle.std.proofs.lemmas.Bool.{false≢true}
-use Rattle.ir_machine.specs.Values.{Registers}
+use Rattle.ir_machine.specs.Values.{Registers, computed}
 use Rattle.ir_machine.specs.Step.{branch_to, switch_to, case_of, steps_of, staged, set_all}
-use Rattle.ir_walk.specs.Walk.{Memory, Behind, Flow, on_entry, on_jump, on_target, on_value, on_store, Back}
+use Rattle.ir_walk.specs.Walk.{Memory, Behind, Callee, Flow, walk_act, on_computed, on_entry, on_jump, on_target, on_value, on_store, Back}
 use Rattle.hk_symvalue.specs.declared.value.SymValue.{SymValue}
 use Rattle.hk_symvalue.specs.Growth.{Extends}
 use Rattle.hk_symvalue.specs.Meaning.{IsTruth, meaning, stands_for, is_true}
@@ -29,7 +32,7 @@ use Rattle.hk_symmem.specs.Guarded.{MemoryView, IsOver, memory_at}
 use Rattle.hk_symstep.specs.Held.{value_meaning}
 use Rattle.hk_symexec.specs.declared.exec.Exec.{Exec}
 use Rattle.hk_symexec.specs.Seen.{IsExec, seen, left_where}
-use Rattle.hk_symexec.specs.Tracks.{Ending, IsFineFlow, Splits, Tracks}
+use Rattle.hk_symexec.specs.Tracks.{Ending, is_computed, IsFineFlow, Splits, Tracks}
 use Rattle.hk_symexec.proofs.Following.{tracks_as, leaves}
 use Rattle.hk_symexec.proofs.Carrying.{carried}
 use Rattle.hk_symexec.proofs.Kept.{over_kept, true_kept, registers_kept, memory_kept}
@@ -171,8 +174,8 @@ module _ (P : Program) (f from to : ℕ) (t0 t1 t2 : List Node) (grown : Extends
       (leaves P f from to (seen t1 v x) (memory_at t1 m v) go e (is_true t1 condition v) (registers_of t2 v y.file)
       (λ off rs w. away rs off w)
       (λ on rs w ps q. subst (λ l. IsWithin (set_all l rs) (registers_of t2 v y.file))
-          (some_is (phis_meaning t1 v phis) ps (covered rs ps (subst (IsWithin rs) (registers_kept t0 t1 grown x.file state.file v) w) (subst (λ k. staged k rs from (steps_of P f to) [] ≡ Some ps) (memory_kept t0 t1 grown m over v) q)))
-          (here rs on w))
+      (some_is (phis_meaning t1 v phis) ps (covered rs ps (subst (IsWithin rs) (registers_kept t0 t1 grown x.file state.file v) w) (subst (λ k. staged k rs from (steps_of P f to) [] ≡ Some ps) (memory_kept t0 t1 grown m over v) q)))
+      (here rs on w))
       told)
 
 -- ---- returns and stores
@@ -193,3 +196,17 @@ store_splits line bytes rs old new go true (written.Puts o x n) (q, same) fine =
 store_splits line bytes rs old new go true (written.Sticks r) a fine = (r, line, refl)
 store_splits line bytes rs old new go false (written.Sticks r) a fine = absurd (false≢true a)
 store_splits line bytes rs old new go b written.Lost a fine = absurd fine
+
+-- ---- instructions that only compute
+
+pub computed_act : (W : Callee) (P : Program) (f b : ℕ) (s : Step) (rs : Registers) (memory : Memory) (go : Behind) (a : Act) → is_computed a ≡ true
+    → walk_act W P f b s rs memory go a ≡ on_computed s rs memory go (computed memory P.objects rs a)
+computed_act W P f b s rs memory go (act.Store bytes align value address) h = absurd (false≢true h)
+computed_act W P f b s rs memory go (act.StoreSlot align value slot) h = absurd (false≢true h)
+computed_act W P f b s rs memory go (act.Goto to) h = absurd (false≢true h)
+computed_act W P f b s rs memory go (act.Branch c taken other) h = absurd (false≢true h)
+computed_act W P f b s rs memory go (act.Switch w on cases default) h = absurd (false≢true h)
+computed_act W P f b s rs memory go (act.Call g arguments) h = absurd (false≢true h)
+computed_act W P f b s rs memory go (act.Return value) h = absurd (false≢true h)
+computed_act W P f b s rs memory go act.Unreachable h = absurd (false≢true h)
+computed_act W P f b s rs memory go a h = refl

@@ -1,5 +1,7 @@
 -- Instructions and blocks one after the other.
-use Rattle.std.proofs.Common.{◌≡◌, ◌<◌, ◌+◌, ◌-◌, ℕ, zero, suc, Bool, true, false, Option, Some, None, List, [], ◌∷◌, take, length, slice_index_or, refl, sym, ap, ◌∙◌, subst, arith}
+use Rattle.std.proofs.Common.{◌≡◌, ◌<◌, ◌≤◌, ◌+◌, ◌-◌, ℕ, zero, suc, Bool, true, false, Option, Some, None, List, [], ◌∷◌, take, length, slice_get, slice_index_or, refl, sym, ap, ◌∙◌, subst, arith}
+use Rattle.std.specs.Option.{unwrap_or}
+use Rattle.std.proofs.lemmas.Option.{none-some}
 use Rattle.hk_term.specs.Meaning.{Reading}
 use Rattle.hk_term.specs.declared.node.Node.{Node}
 use Rattle.ir_layout.specs.declared.object.Object as laid
@@ -50,18 +52,18 @@ pub record Touring (W : Callee) (P : Program) (f : ℕ) (first now : List Node) 
   pub over : IsOver now n
   pub rests : (v : Reading) (e : Ending) → Rests P f (seen first v x) (memory_at first m v) e → Rests P f (seen now v y) (memory_at now n v) (along (visit_all W P f done) e)
 
-pub touring_on : (W : Callee) (P : Program) (f : ℕ) (first now new : List Node) (m n k : MemoryView) (x y z : Exec) (order : List ℕ) (i b : ℕ)
-    → Touring W P f first now m n x y (take i order) → i < length order → b ≡ slice_index_or order i b → Extends now new → k.origins ≡ n.origins → IsExec new z → IsOver new k
+pub touring_on : (W : Callee) (P : Program) (f : ℕ) (first now new : List Node) (m n k : MemoryView) (x y z : Exec) (order : List ℕ) (i b d : ℕ)
+    → Touring W P f first now m n x y (take i order) → i < length order → b ≡ slice_index_or order i d → Extends now new → k.origins ≡ n.origins → IsExec new z → IsOver new k
     → ((v : Reading) (e : Ending) → Rests P f (seen now v y) (memory_at now n v) e → Rests P f (seen new v z) (memory_at new k v) (along (visit W P f b) e))
     → Touring W P f first new m k x z (take (i + 1) order)
-touring_on W P f first now new m n k x y z order i b so l is grown same state over next = record {
+touring_on W P f first now new m n k x y z order i b d so l is grown same state over next = record {
   frame = followed first now new so.frame grown;
   origins = same ∙ so.origins;
   state = state;
   over = over;
   rests = λ v e h.
       subst (Rests P f (seen new v z) (memory_at new k v))
-      (ap (λ c. along (visit W P f c) (along (visit_all W P f (take i order)) e)) is ∙ visited_more W P f i order b e l)
+      (ap (λ c. along (visit W P f c) (along (visit_all W P f (take i order)) e)) is ∙ visited_more W P f i order d e l)
       (next v (along (visit_all W P f (take i order)) e) (so.rests v e h));
 }
 
@@ -77,3 +79,15 @@ walk_deeper P order (suc n) f rs memory l = ap (λ k. visit_all (walk P order k)
 pub no_depth : (P : Program) (order : ℕ → List ℕ) (n f : ℕ) (rs : Registers) (memory : Memory) (s : Seen) (c : Memory) → n ≡ 0 → Rests P f s c (On (walk P order n f rs memory))
 unfolding Tracks
 no_depth P order n f rs memory s c none fine = absurd (subst (λ k. IsFine (On (walk P order k f rs memory))) none fine)
+
+pub take_all : (i : ℕ) (xs : List ℕ) → length xs ≤ i → take i xs ≡ xs
+take_all zero [] l = refl
+take_all (suc i) [] l = refl
+take_all zero (x ∷ xs) l = absurd (omega (arith, l))
+take_all (suc i) (x ∷ xs) l = ap (λ ys. x ∷ ys) (take_all i xs (omega (arith, l)))
+
+pub got_or : {X : Type 0} (xs : List X) (i : ℕ) (x d : X) → slice_get xs i ≡ Some x → slice_index_or xs i d ≡ x
+got_or [] zero x d e = absurd (none-some x e)
+got_or [] (suc i) x d e = absurd (none-some x e)
+got_or (y ∷ ys) zero x d e = ap (λ o. unwrap_or o y) e
+got_or (y ∷ ys) (suc i) x d e = got_or ys i x d e

@@ -113,11 +113,11 @@ module _ (W : Callee) (P : Program) (f b : ℕ) (s : Seen) (memory : Memory) (e 
       → e ≡ On (Goes to position rs memory) → IsFine after → ((nat_eq to b ≡ true) × (to ≡ b)) ⊎ ((nat_eq to b ≡ false) × (to ≢ b)) → Somewhere P f (entered b s) memory here_after after
   goes_here l to position rs sh w i q fine (inl (t, same)) =
       let r : after ≡ On (walk_steps W P f b (drop position (steps_of P f b)) rs memory) =
-          ap (along (visit W P f b)) q ∙ ap (λ c. On (if c then walk_steps W P f b (drop position (steps_of P f b)) rs memory else Goes to position rs memory)) t in
+      ap (along (visit W P f b)) q ∙ ap (λ c. On (if c then walk_steps W P f b (drop position (steps_of P f b)) rs memory else Goes to position rs memory)) t in
       (Here, turns to l same sh, (rs, w, r ∙ ap On (from_entry position rs (subst (λ k. IsEntry P f k position) same i) (subst IsFine r fine))))
   goes_here l to position rs sh w i q fine (inr (t, other)) =
       let r : after ≡ On (Goes to position rs memory) =
-          ap (along (visit W P f b)) q ∙ ap (λ c. On (if c then walk_steps W P f b (drop position (steps_of P f b)) rs memory else Goes to position rs memory)) t in
+      ap (along (visit W P f b)) q ∙ ap (λ c. On (if c then walk_steps W P f b (drop position (steps_of P f b)) rs memory else Goes to position rs memory)) t in
       (Going to, stays (Going to) l refl (apart (eqb_tells b to)) sh, (rs, position, w, i, r))
     where
       apart : ((nat_eq b to ≡ true) × (b ≡ to)) ⊎ ((nat_eq b to ≡ false) × (b ≢ to)) → nat_eq b to ≡ false
@@ -145,11 +145,11 @@ module _ (W : Callee) (P : Program) (f b : ℕ) (s : Seen) (memory : Memory) (e 
           → e ≡ On (Goes to position rs memory) → ((nat_eq to b ≡ true) × (to ≡ b)) ⊎ ((nat_eq to b ≡ false) × (to ≢ b)) → Somewhere P f s memory nothing after
       goes to position rs sh w i q (inl (t, same)) =
           let r : after ≡ On (walk_steps W P f b (drop position (steps_of P f b)) rs memory) =
-              ap (along (visit W P f b)) q ∙ ap (λ c. On (if c then walk_steps W P f b (drop position (steps_of P f b)) rs memory else Goes to position rs memory)) t in
+          ap (along (visit W P f b)) q ∙ ap (λ c. On (if c then walk_steps W P f b (drop position (steps_of P f b)) rs memory else Goes to position rs memory)) t in
           absurd (never to sh same position rs (subst IsFine r fine))
       goes to position rs sh w i q (inr (t, other)) =
           let r : after ≡ On (Goes to position rs memory) =
-              ap (along (visit W P f b)) q ∙ ap (λ c. On (if c then walk_steps W P f b (drop position (steps_of P f b)) rs memory else Goes to position rs memory)) t in
+          ap (along (visit W P f b)) q ∙ ap (λ c. On (if c then walk_steps W P f b (drop position (steps_of P f b)) rs memory else Goes to position rs memory)) t in
           (Going to, sh, (rs, position, w, i, r))
 
       by : Somewhere P f s memory nothing e → Somewhere P f s memory nothing after
@@ -329,38 +329,42 @@ module _ (W : Callee) (P : Program) (f g : ℕ) (s after : Seen) (memory behind 
       away : (p : Phase) → is_here p ≡ false → Shows (length (body_of P f)) s p → Stands P f s.registers s.value memory one p e → Somewhere P f (returned after new s) behind go e
       away p n sh st =
           let r : Rests P g after behind (Off s.stuck memory) = absent s.stuck memory (rests_absent (sh.guard ∙ n)) in
-          let d : Shows blocks after (Absent s.stuck) = rests_shows P g after behind (Off s.stuck memory) r tt in
-          (p,
-          record {
-            size = sh.size;
-            guard = d.back ∙ sym n;
-            entries = sh.entries;
-            back = sh.back;
-            valued = sh.valued;
-            stuck = d.stuck ∙ sh.stuck;
-          },
-          subst (λ m. Stands P f new s.value m go p e) (sym (rests_off P g after behind s.stuck memory r))
-          (elsewhere P f s.registers new s.value s.value memory one go p e n (kept d.valued) (λ w q. q) st))
+          let d : Shows blocks after (Absent s.stuck) = rests_shows P g after behind (Off s.stuck memory) r tt in (
+            p,
+            record {
+              size = sh.size;
+              guard = d.back ∙ sym n;
+              entries = sh.entries;
+              back = sh.back;
+              valued = sh.valued;
+              stuck = d.stuck ∙ sh.stuck;
+            },
+            subst (λ m. Stands P f new s.value m go p e) (sym (rests_off P g after behind s.stuck memory r))
+                (elsewhere P f s.registers new s.value s.value memory one go p e n (kept d.valued) (λ w q. q) st),
+          )
 
       at : (rs : Registers) → Shows (length (body_of P f)) s Here → IsWithin rs s.registers → (F : Flow) → Rests P g after behind (On F) → e ≡ On (on_back step rs go F) → Somewhere P f (returned after new s) behind go e
       at rs sh w (Goes to position rs' m) r q = absurd (subst IsFine q fine)
       at rs sh w (Back None m) r q =
           let d : Shows blocks after (Came None) = rests_shows P g after behind (On (Back None m)) r tt in
-          let kept_back : HoldsBack after.value None × (behind ≡ m) = rests_back P g after behind None m r in
-          (Here,
-          record { size = sh.size; guard = d.back; entries = sh.entries; back = sh.back; valued = sh.valued; stuck = d.stuck },
-          (rs, kept d.valued rs w, q ∙ ap (λ m'. On (go rs m')) (sym kept_back.1)))
+          let kept_back : HoldsBack after.value None × (behind ≡ m) = rests_back P g after behind None m r in (
+            Here,
+            record { size = sh.size; guard = d.back; entries = sh.entries; back = sh.back; valued = sh.valued; stuck = d.stuck },
+            (rs, kept d.valued rs w, q ∙ ap (λ m'. On (go rs m')) (sym kept_back.1)),
+          )
       at rs sh w (Back (Some x) m) r q =
           let d : Shows blocks after (Came (Some x)) = rests_shows P g after behind (On (Back (Some x) m)) r tt in
-          let kept_back : HoldsBack after.value (Some x) × (behind ≡ m) = rests_back P g after behind (Some x) m r in
-          (Here,
-          record { size = sh.size; guard = d.back; entries = sh.entries; back = sh.back; valued = sh.valued; stuck = d.stuck },
-          (with_result step.result (held.Value x) rs, set d.valued x kept_back.0 rs w, q ∙ ap (λ m'. On (go (with_result step.result (held.Value x) rs) m')) (sym kept_back.1)))
+          let kept_back : HoldsBack after.value (Some x) × (behind ≡ m) = rests_back P g after behind (Some x) m r in (
+            Here,
+            record { size = sh.size; guard = d.back; entries = sh.entries; back = sh.back; valued = sh.valued; stuck = d.stuck },
+            (with_result step.result (held.Value x) rs, set d.valued x kept_back.0 rs w, q ∙ ap (λ m'. On (go (with_result step.result (held.Value x) rs) m')) (sym kept_back.1)),
+          )
       at rs sh w (Stops (Stuck reason line)) r q =
-          let d : Shows blocks after Halted = rests_shows P g after behind (On (Stops (Stuck reason line))) r tt in
-          (Halted,
-          record { size = sh.size; guard = d.back; entries = sh.entries; back = sh.back; valued = sh.valued; stuck = d.stuck },
-          (reason, line, q))
+          let d : Shows blocks after Halted = rests_shows P g after behind (On (Stops (Stuck reason line))) r tt in (
+            Halted,
+            record { size = sh.size; guard = d.back; entries = sh.entries; back = sh.back; valued = sh.valued; stuck = d.stuck },
+            (reason, line, q),
+          )
       at rs sh w (Stops Lost) r q = absurd (subst IsFine q fine)
       at rs sh w (Stops Unfinished) r q = absurd (subst IsFine q fine)
       at rs sh w (Stops (Returned x m)) r q = absurd (subst IsFine q fine)

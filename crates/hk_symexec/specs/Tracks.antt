@@ -129,6 +129,18 @@ abbrev pub is_call : Act → Bool
 is_call (act.Call g arguments) = true
 is_call _ = false
 
+-- neither a store, nor an instruction that leads elsewhere
+abbrev pub is_computed : Act → Bool
+is_computed (act.Store bytes align value address) = false
+is_computed (act.StoreSlot align value slot) = false
+is_computed (act.Goto to) = false
+is_computed (act.Branch c taken other) = false
+is_computed (act.Switch w on cases default) = false
+is_computed (act.Call g arguments) = false
+is_computed (act.Return value) = false
+is_computed act.Unreachable = false
+is_computed _ = true
+
 -- the order of the blocks of each function
 abbrev pub order_in : List (List ℕ) → ℕ → List ℕ
 order_in orders f = slice_index_or orders f []

@@ -62,12 +62,7 @@ fn mark_inside(
 }
 
 // The run goes to a block where a condition holds, too.
-fn mark(
-    t: &mut Terms,
-    entries: Entries,
-    to: u32,
-    condition: TermId,
-) -> Result<Entries, AllocError>
+fn mark(t: &mut Terms, entries: Entries, to: u32, condition: TermId) -> Result<Entries, AllocError>
     requires entries { All (λ k. IsTruth t.old k) entries }
     requires condition { IsTruth t.old condition }
     ensures frame { Extends t.old t.new }

@@ -48,7 +48,9 @@ pub(crate) fn goto<R: InitialReads>(
         Tracks program.now function (seen t.new v y) (memory_at t.new memory.now v) go e) }
 {
     let always = truths::constant(t, true)?;
-    let made = jump(alloc, t, layout, program, memory, x, function, from, to, always)?;
+    let made = jump(
+        alloc, t, layout, program, memory, x, function, from, to, always,
+    )?;
     Ok(made)
 }
 
@@ -80,8 +82,12 @@ fn branch_on<R: InitialReads>(
 {
     let known = stick(t, x, condition.poison)?;
     let zero = truths::equals(t, condition.bits, 0)?;
-    let other = jump(alloc, t, layout, program, memory, known, function, from, no, zero)?;
-    let made = goto(alloc, t, layout, program, memory, other, function, from, yes)?;
+    let other = jump(
+        alloc, t, layout, program, memory, known, function, from, no, zero,
+    )?;
+    let made = goto(
+        alloc, t, layout, program, memory, other, function, from, yes,
+    )?;
     Ok(made)
 }
 
@@ -114,7 +120,9 @@ pub(crate) fn branch<R: InitialReads>(
     match read {
         None => Ok(x),
         Some(on) => {
-            let made = branch_on(alloc, t, layout, program, memory, x, function, from, on, yes, no)?;
+            let made = branch_on(
+                alloc, t, layout, program, memory, x, function, from, on, yes, no,
+            )?;
             Ok(made)
         }
     }
@@ -153,7 +161,9 @@ fn cases_on<R: InitialReads>(
             alloc, t, layout, program, memory, state, function, from, case.block, hit,
         )?;
     }
-    let made = goto(alloc, t, layout, program, memory, state, function, from, default)?;
+    let made = goto(
+        alloc, t, layout, program, memory, state, function, from, default,
+    )?;
     Ok(made)
 }
 
@@ -184,7 +194,9 @@ fn switch_on<R: InitialReads>(
         Tracks program.now function (seen t.new v y) (memory_at t.new memory.now v) go e) }
 {
     let known = stick(t, x, on.poison)?;
-    let made = cases_on(alloc, t, layout, program, memory, known, function, from, on.bits, cases, default)?;
+    let made = cases_on(
+        alloc, t, layout, program, memory, known, function, from, on.bits, cases, default,
+    )?;
     Ok(made)
 }
 

@@ -9,11 +9,13 @@ mod blocks;
 mod calls;
 mod entries;
 mod exec;
+mod instructions;
 mod jumps;
 mod leads;
 mod marks;
 mod phis;
 mod returns;
+mod run;
 mod settle;
 mod truths;
 

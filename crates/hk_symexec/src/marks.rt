@@ -109,11 +109,7 @@ fn value_back(
 
 /// The run comes back from here with a value.
 #[tactic(auto, using(crate::proofs::Kept::exec_kept, crate::proofs::Kept::seen_kept))]
-pub(crate) fn come_back_with(
-    t: &mut Terms,
-    x: Exec,
-    value: SymValue,
-) -> Result<Exec, AllocError>
+pub(crate) fn come_back_with(t: &mut Terms, x: Exec, value: SymValue) -> Result<Exec, AllocError>
     requires state { IsExec t.old x }
     requires value { IsSym t.old value }
     ensures frame { Extends t.old t.new }

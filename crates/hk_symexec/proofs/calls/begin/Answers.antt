@@ -11,7 +11,7 @@ returns-clause-seen c = λ v j. record {
   entries =
       (ap (entries_seen c.constant.new.t v) (c.opened-entries.ensures ∙ ap (λ l. slice_set l 0 c.args.caller.now.guard) c.in_ok-closed.ensures)
       ∙ entries_begun c.constant.new.t v c.args.blocks c.in_ok-never.never c.args.caller.now.guard (is_true c.args.t.now c.args.caller.now.guard v) (c.in_ok-never.ensures.value v)
-        (true_kept c.args.t.now c.constant.new.t c.in_ok-never.ensures.frame c.args.caller.now.guard c.requires.caller.guard v)) j;
+      (true_kept c.args.t.now c.constant.new.t c.in_ok-never.ensures.frame c.args.caller.now.guard c.requires.caller.guard v)) j;
   registers = registers_kept c.args.t.now c.constant.new.t c.in_ok-never.ensures.frame c.args.file c.requires.file v j;
   back = c.in_ok-never.ensures.value v j;
   valued = c.in_ok-never.ensures.value v j;

@@ -16,7 +16,8 @@ loop-argument-preserved g c =
     (λ v. c.argument_held.ensures.meaning c.operand.new.t v) (λ v rs x w q. c.in_ok-value.ensures.covered v rs x w q)))
 
 pub loop-preserved : goal.loop-preserved
-loop-preserved g c =
-    (subst (IsFile c.loop-argument.t) (sym c.in_ok-push-2.ensures.items) (file_push c.loop-argument.t c.loop.places.items None c.loop.invariant.0 tt),
-    λ v rs w. subst (λ l. IsWithin (argument_registers (memory_at c.args.t.now c.args.memory.now v) rs c.args.arguments.now ++ unset (c.loop.counter + 1)) (registers_of c.loop-argument.t v l)) (sym c.in_ok-push-2.ensures.items)
-        (unset_on c.loop-argument.t v (argument_registers (memory_at c.args.t.now c.args.memory.now v) rs c.args.arguments.now) c.loop.counter c.loop.places.items (c.loop.invariant.1 v rs w)))
+loop-preserved g c = (
+  subst (IsFile c.loop-argument.t) (sym c.in_ok-push-2.ensures.items) (file_push c.loop-argument.t c.loop.places.items None c.loop.invariant.0 tt),
+  λ v rs w. subst (λ l. IsWithin (argument_registers (memory_at c.args.t.now c.args.memory.now v) rs c.args.arguments.now ++ unset (c.loop.counter + 1)) (registers_of c.loop-argument.t v l)) (sym c.in_ok-push-2.ensures.items)
+      (unset_on c.loop-argument.t v (argument_registers (memory_at c.args.t.now c.args.memory.now v) rs c.args.arguments.now) c.loop.counter c.loop.places.items (c.loop.invariant.1 v rs w)),
+)

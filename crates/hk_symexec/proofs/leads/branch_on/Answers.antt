@@ -20,7 +20,7 @@ returns-clause-tracks g c = λ v line go e h.
     let first : IsOver c.stick.new.t c.args.memory.now = over_kept c.args.t.now c.stick.new.t c.in_ok-known.ensures.frame c.args.memory.now c.requires.over in
     let one : Behind = λ rs m. if nat_eq (value c.args.t.now c.args.condition.bits v) 0 then on_jump c.args.program.now c.args.function c.args.from c.args.no rs m else on_jump c.args.program.now c.args.function c.args.from c.args.yes rs m in
     let told : is_true c.equals.new.t c.in_ok-zero.zero v ≡ nat_eq (value c.args.t.now c.args.condition.bits v) 0 =
-        c.in_ok-zero.ensures.value v ∙ ap (λ n. nat_eq n 0) (c.in_ok-known.ensures.frame.values c.args.condition.bits c.requires.condition.bits v) in
+    c.in_ok-zero.ensures.value v ∙ ap (λ n. nat_eq n 0) (c.in_ok-known.ensures.frame.values c.args.condition.bits c.requires.condition.bits v) in
     c.in_ok-made.ensures.tracks v go e
     (c.in_ok-other.ensures.tracks v (λ rs m. on_jump c.args.program.now c.args.function c.args.from c.args.yes rs m) e
     (tracks_as c.args.program.now c.args.function (seen c.equals.new.t v c.in_ok-known.known) (memory_at c.equals.new.t c.args.memory.now v) one
@@ -32,4 +32,4 @@ returns-clause-tracks g c = λ v line go e h.
     (sticks c.args.program.now c.args.function (seen c.args.t.now v c.args.x) (memory_at c.args.t.now c.args.memory.now v)
     (λ rs m. on_target c.args.program.now c.args.function c.args.from line rs m (branch_to (Some (meaning c.args.t.now c.args.condition v)) c.args.yes c.args.no)) one e (is_true c.args.t.now c.args.condition.poison v)
     (λ rs on w fine. branch_splits c.args.program.now c.args.function c.args.from line rs (memory_at c.args.t.now c.args.memory.now v) c.args.yes c.args.no (is_true c.args.t.now c.args.condition.poison v)
-        (value c.args.t.now c.args.condition.base v) (value c.args.t.now c.args.condition.bits v) fine) h))))))
+    (value c.args.t.now c.args.condition.base v) (value c.args.t.now c.args.condition.bits v) fine) h))))))

@@ -26,4 +26,4 @@ returns-clause-tracks g c = λ v line go e h.
     (sticks c.args.program.now c.args.function (seen c.args.t.now v c.args.x) (memory_at c.args.t.now c.args.memory.now v)
     (λ rs m. on_target c.args.program.now c.args.function c.args.from line rs m (switch_to (Some (meaning c.args.t.now c.args.on v)) c.args.cases.now c.args.default)) one e (is_true c.args.t.now c.args.on.poison v)
     (λ rs on w fine. switch_splits c.args.program.now c.args.function c.args.from line rs (memory_at c.args.t.now c.args.memory.now v) c.args.cases.now c.args.default (is_true c.args.t.now c.args.on.poison v)
-        (value c.args.t.now c.args.on.base v) (value c.args.t.now c.args.on.bits v) fine) h))))
+    (value c.args.t.now c.args.on.base v) (value c.args.t.now c.args.on.bits v) fine) h))))

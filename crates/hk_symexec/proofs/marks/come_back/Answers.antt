@@ -7,8 +7,8 @@ pub returns-clause-seen : goal.returns-clause-seen
 returns-clause-seen c =
     let frame : Extends c.args.t.now c.constant.new.t = search rules in
     λ v. seen_by c.args.t.now c.constant.new.t frame c.args.x c.requires.state v _ _ refl refl refl refl
-        (search rules)
-        (search rules)
-        (true_kept c.args.t.now c.constant.new.t frame c.args.x.valued c.requires.state.valued v)
-        (operand_same c.args.t.now c.constant.new.t frame c.args.x.value c.requires.state.value v)
-        (true_kept c.args.t.now c.constant.new.t frame c.args.x.stuck c.requires.state.stuck v)
+    (search rules)
+    (search rules)
+    (true_kept c.args.t.now c.constant.new.t frame c.args.x.valued c.requires.state.valued v)
+    (operand_same c.args.t.now c.constant.new.t frame c.args.x.value c.requires.state.value v)
+    (true_kept c.args.t.now c.constant.new.t frame c.args.x.stuck c.requires.state.stuck v)

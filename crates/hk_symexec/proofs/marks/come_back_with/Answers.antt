@@ -7,13 +7,13 @@ pub returns-clause-seen : goal.returns-clause-seen
 returns-clause-seen c =
     let frame : Extends c.args.t.now c.constant.new.t = search rules in
     λ v. seen_by c.args.t.now c.constant.new.t frame c.args.x c.requires.state v
-        (record { guard = c.in_ok-guard.guard; entries = c.args.x.entries; file = c.args.x.file; back = c.in_ok-back.back; valued = c.in_ok-valued.valued; value = Some c.in_ok-chosen.chosen; stuck = c.args.x.stuck })
-        _ refl refl refl refl
-        (search rules)
-        (search rules)
-        (search rules)
-        refl
-        (true_kept c.args.t.now c.constant.new.t frame c.args.x.stuck c.requires.state.stuck v)
+    (record { guard = c.in_ok-guard.guard; entries = c.args.x.entries; file = c.args.x.file; back = c.in_ok-back.back; valued = c.in_ok-valued.valued; value = Some c.in_ok-chosen.chosen; stuck = c.args.x.stuck })
+    _ refl refl refl refl
+    (search rules)
+    (search rules)
+    (search rules)
+    refl
+    (true_kept c.args.t.now c.constant.new.t frame c.args.x.stuck c.requires.state.stuck v)
 
 pub returns-clause-kept : goal.returns-clause-kept
 returns-clause-kept c =

@@ -34,4 +34,4 @@ pub returns-clause-covered : goal.returns-clause-covered
 returns-clause-covered g c = λ v rs ps w q.
     ap (λ l. Some (phis_meaning c.loop-step.t v l)) c.from_vec-2.ensures
     ∙ subst (λ l. staged (memory_at c.args.t.now c.args.memory.now v) rs c.args.from l (phis_meaning c.loop-step.t v c.loop-step.found.items) ≡ Some ps)
-      (drop_all c.loop-step.step-index c.args.steps.now c.loop-step-test.false) (c.loop-step.invariant.goes v rs ps w q)
+    (drop_all c.loop-step.step-index c.args.steps.now c.loop-step-test.false) (c.loop-step.invariant.goes v rs ps w q)

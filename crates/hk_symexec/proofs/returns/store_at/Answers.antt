@@ -23,6 +23,6 @@ returns-clause-tracks g c = λ P f v line go e h.
     (writes P f (seen c.store.new.t v c.args.x) (memory_at c.args.t.now c.args.memory.now v) (memory_at c.store.new.t c.store.new.memory v) (λ rs m. on_store line c.args.bytes rs m go (stored m c.args.objects.now c.args.bytes c.args.align (Some (meaning c.args.t.now c.args.value v)) (Some (meaning c.args.t.now c.args.address v)))) go e (is_true c.store.new.t c.in_ok-stuck.stuck v)
     (λ off. c.in_ok-stuck.ensures.away v (sym (ap (λ s. s.guard) kept) ∙ off))
     (λ on rs w fine. store_splits line c.args.bytes rs (memory_at c.args.t.now c.args.memory.now v) (memory_at c.store.new.t c.store.new.memory v) go (is_true c.store.new.t c.in_ok-stuck.stuck v)
-        (stored (memory_at c.args.t.now c.args.memory.now v) c.args.objects.now c.args.bytes c.args.align (Some (meaning c.args.t.now c.args.value v)) (Some (meaning c.args.t.now c.args.address v)))
-        (c.in_ok-stuck.ensures.here v (sym (ap (λ s. s.guard) kept) ∙ on)) fine)
+    (stored (memory_at c.args.t.now c.args.memory.now v) c.args.objects.now c.args.bytes c.args.align (Some (meaning c.args.t.now c.args.value v)) (Some (meaning c.args.t.now c.args.address v)))
+    (c.in_ok-stuck.ensures.here v (sym (ap (λ s. s.guard) kept) ∙ on)) fine)
     (subst (λ s. Tracks P f s (memory_at c.args.t.now c.args.memory.now v) (λ rs m. on_store line c.args.bytes rs m go (stored m c.args.objects.now c.args.bytes c.args.align (Some (meaning c.args.t.now c.args.value v)) (Some (meaning c.args.t.now c.args.address v)))) e) (sym kept) h)))

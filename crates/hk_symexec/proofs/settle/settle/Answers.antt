@@ -17,13 +17,13 @@ pub returns-in_ok-made-in-Sets-clause-tracks : goal.returns-in_ok-made-in-Sets-c
 returns-in_ok-made-in-Sets-clause-tracks c = λ P f v memory go e made answers h.
     c.in_ok-made-in-Sets.ensures.tracks P f v memory go (λ rs m. on_computed c.args.step.now rs m go (made rs m)) e
     (λ rs w fine. sets_split c.args.step.now rs memory go (is_true c.args.t.now c.in-Sets.stuck v) (held_meaning c.args.t.now v c.in-Sets.held) (made rs memory)
-        (subst (λ k. AnswersComputed c.args.t.now v k (made rs memory)) c.in-Sets.is (answers rs w)) fine) h
+    (subst (λ k. AnswersComputed c.args.t.now v k (made rs memory)) c.in-Sets.is (answers rs w)) fine) h
 
 pub returns-in_ok-made-in-Passes-clause-tracks : goal.returns-in_ok-made-in-Passes-clause-tracks
 returns-in_ok-made-in-Passes-clause-tracks c = λ P f v memory go e made answers h.
     c.in_ok-made-in-Passes.ensures.tracks P f v memory go (λ rs m. on_computed c.args.step.now rs m go (made rs m)) e
     (λ rs w fine. passes_split c.args.step.now rs memory go (is_true c.args.t.now c.in-Passes.stuck v) (made rs memory)
-        (subst (λ k. AnswersComputed c.args.t.now v k (made rs memory)) c.in-Passes.is (answers rs w)) fine) h
+    (subst (λ k. AnswersComputed c.args.t.now v k (made rs memory)) c.in-Passes.is (answers rs w)) fine) h
 
 pub returns-in-Lost-clause-tracks : goal.returns-in-Lost-clause-tracks
 returns-in-Lost-clause-tracks c = λ P f v memory go e made answers h.

@@ -1,0 +1,65 @@
+use Rattle.std.proofs.Common.{rules, ◌≡◌, ◌<◌, ◌+◌, ◌*◌, ◌-◌, ◌&&◌, ◌||◌, not, ℕ, Bool, true, false, if◌then◌else◌, nat_eq, Option, Some, None, List, [], ◌∷◌, ◌++◌, refl, sym, ap, ◌∙◌, subst, take, drop, length, slice_get, slice_set, slice_index_or, arith}
+use Rattle.ir_value.specs.declared.value.StuckReason.TheVariants as u
+use Rattle.ir_machine.specs.declared.state.End.TheVariants.{Stuck}
+use Rattle.ir_machine.specs.Values.{Registers, value_of, held_at, computed, arguments_pass}
+use Rattle.ir_machine.specs.Step.{switch_to, slot_stored, first_registers, argument_registers}
+use Rattle.ir_walk.specs.Walk.{Behind, Memory, Stops, on_computed, on_slot, on_target, on_back, on_passed, on_call, walk_act, walk_steps, walk, visit, visit_all}
+use Rattle.hk_symvalue.specs.Growth.{Extends}
+use Rattle.hk_symvalue.specs.Meaning.{is_true}
+use Rattle.hk_symmem.specs.Guarded.{IsOver, memory_at}
+use Rattle.hk_symstep.specs.Files.{IsWithin, Covers, registers_of}
+use Rattle.hk_symstep.specs.Steps.{AnswersComputed, AnswersPasses}
+use Rattle.hk_symexec.specs.Seen.{seen}
+use Rattle.hk_symexec.specs.Tracks.{Tracks, Rests, Splits, along, order_in}
+use Rattle.hk_symexec.proofs.Kept.{over_kept, exec_kept, seen_kept, memory_kept}
+use Rattle.hk_symexec.proofs.PhiLaws.{covers_back, covers_kept}
+use Rattle.hk_symexec.proofs.Following.{tracks_as}
+use Rattle.hk_symexec.proofs.Carrying.{carried, memory_carried}
+use Rattle.hk_symexec.proofs.CallLaws.{passed_splits, call_follows}
+use Rattle.hk_symexec.proofs.Visiting.{begins, passes_closed, passes_beyond}
+use Rattle.hk_symexec.proofs.Running.{fits_kept, Stepping, stepping_on, Touring, touring_on, walk_deeper, no_depth, take_all}
+use Rattle.hk_symexec.proofs.instructions.plain.Goals as goal
+
+pub returns-in_ok-made-in-Store-clause-tracks : goal.returns-in_ok-made-in-Store-clause-tracks
+returns-in_ok-made-in-Store-clause-tracks g c = λ W v go e h.
+    c.in_ok-made-in-Store.ensures.tracks c.args.program.now c.args.function v c.args.step.now.line go e
+    (subst (λ a. Tracks c.args.program.now c.args.function (seen c.args.t.now v c.args.x) (memory_at c.args.t.now c.args.memory.now v) (λ rs m. walk_act W c.args.program.now c.args.function c.args.block c.args.step.now rs m go a) e) c.in-Store.is h)
+
+pub returns-in_ok-made-in-StoreSlot-clause-tracks : goal.returns-in_ok-made-in-StoreSlot-clause-tracks
+returns-in_ok-made-in-StoreSlot-clause-tracks g c = λ W v go e h.
+    c.in_ok-made-in-StoreSlot.ensures.tracks c.args.program.now c.args.function v go e
+    (subst (λ a. Tracks c.args.program.now c.args.function (seen c.args.t.now v c.args.x) (memory_at c.args.t.now c.args.memory.now v) (λ rs m. walk_act W c.args.program.now c.args.function c.args.block c.args.step.now rs m go a) e) c.in-StoreSlot.is h)
+
+pub returns-in_ok-made-in-Goto-clause-tracks : goal.returns-in_ok-made-in-Goto-clause-tracks
+returns-in_ok-made-in-Goto-clause-tracks g c = λ W v go e h.
+    c.in_ok-made-in-Goto.ensures.tracks v go e
+    (subst (λ a. Tracks c.args.program.now c.args.function (seen c.args.t.now v c.args.x) (memory_at c.args.t.now c.args.memory.now v) (λ rs m. walk_act W c.args.program.now c.args.function c.args.block c.args.step.now rs m go a) e) c.in-Goto.is h)
+
+pub returns-in_ok-made-in-Branch-clause-tracks : goal.returns-in_ok-made-in-Branch-clause-tracks
+returns-in_ok-made-in-Branch-clause-tracks g c = λ W v go e h.
+    c.in_ok-made-in-Branch.ensures.tracks v c.args.step.now.line go e
+    (subst (λ a. Tracks c.args.program.now c.args.function (seen c.args.t.now v c.args.x) (memory_at c.args.t.now c.args.memory.now v) (λ rs m. walk_act W c.args.program.now c.args.function c.args.block c.args.step.now rs m go a) e) c.in-Branch.is h)
+
+pub returns-in_ok-made-in-Switch-clause-tracks : goal.returns-in_ok-made-in-Switch-clause-tracks
+returns-in_ok-made-in-Switch-clause-tracks g c = λ W v go e h.
+    c.in_ok-made-in-Switch.ensures.tracks v c.args.step.now.line go e
+    (subst (λ l. Tracks c.args.program.now c.args.function (seen c.args.t.now v c.args.x) (memory_at c.args.t.now c.args.memory.now v) (λ rs m. on_target c.args.program.now c.args.function c.args.block c.args.step.now.line rs m (switch_to (value_of m rs c.in-Switch.on) l c.in-Switch.default)) e) (sym c.as_slice.ensures) (subst (λ a. Tracks c.args.program.now c.args.function (seen c.args.t.now v c.args.x) (memory_at c.args.t.now c.args.memory.now v) (λ rs m. walk_act W c.args.program.now c.args.function c.args.block c.args.step.now rs m go a) e) c.in-Switch.is h))
+
+pub returns-in_ok-made-in-Return-clause-tracks : goal.returns-in_ok-made-in-Return-clause-tracks
+returns-in_ok-made-in-Return-clause-tracks g c = λ W v go e h.
+    c.in_ok-made-in-Return.ensures.tracks c.args.program.now c.args.function v c.args.step.now.line go e
+    (subst (λ a. Tracks c.args.program.now c.args.function (seen c.args.t.now v c.args.x) (memory_at c.args.t.now c.args.memory.now v) (λ rs m. walk_act W c.args.program.now c.args.function c.args.block c.args.step.now rs m go a) e) c.in-Return.is h)
+
+pub returns-in_ok-made-in-Unreachable-clause-tracks : goal.returns-in_ok-made-in-Unreachable-clause-tracks
+returns-in_ok-made-in-Unreachable-clause-tracks g c = λ W v go e h.
+    c.in_ok-made-in-Unreachable.ensures.tracks c.args.program.now c.args.function v c.args.step.now.line go e
+    (subst (λ a. Tracks c.args.program.now c.args.function (seen c.args.t.now v c.args.x) (memory_at c.args.t.now c.args.memory.now v) (λ rs m. walk_act W c.args.program.now c.args.function c.args.block c.args.step.now rs m go a) e) c.in-Unreachable.is h)
+
+pub returns-in_ok-made-in_default : goal.returns-in_ok-made-in_default
+returns-in_ok-made-in_default g c = record {
+  frame = c.in_ok-made-in_default.ensures.frame;
+  origins = refl;
+  within = c.in_ok-made-in_default.ensures.within;
+  over = over_kept c.args.t.now c.compute.new.t c.in_ok-made-in_default.ensures.frame c.args.memory.now c.requires.over;
+  tracks = λ W v go e h. c.in_ok-made-in_default.ensures.tracks W c.args.function c.args.block v go e h;
+}
