@@ -78,7 +78,7 @@ passing_on first now new file m arguments i places value p s in_first over grown
         by None e q = absurd (none-some h q)
         by (Some x) e q = ap argument_held (covered v rs x w (ap (λ k. value_of k rs i) (memory_kept first now s.frame m over v) ∙ e)) ∙ q
 
-unset_more : (n : ℕ) → unset (suc n) ≡ unset n ++ None ∷ []
+pub unset_more : (n : ℕ) → unset (suc n) ≡ unset n ++ None ∷ []
 unset_more zero = refl
 unset_more (suc n) = ap (λ l. None ∷ l) (unset_more n)
 
