@@ -1,5 +1,5 @@
 -- What the state behind a function tells of its run.
-use Rattle.std.proofs.Common.{◌≡◌, ◌<◌, ◌+◌, ◌++◌, ◌-◌, ℕ, zero, suc, Bool, true, false, if◌then◌else◌, ◌==◌, Option, Some, None, List, [], ◌∷◌, map, length, drop, slice_get, refl, sym, ap, ◌∙◌, subst, option_map, arith}
+use Rattle.std.proofs.Common.{◌≡◌, ◌+◌, ◌++◌, ◌-◌, ℕ, zero, suc, Bool, true, false, if◌then◌else◌, ◌==◌, Option, Some, None, List, [], ◌∷◌, map, length, drop, slice_get, refl, sym, ap, ◌∙◌, subst}
 use Rattle.std.specs.Prelude.{is_some, bytes_eq}
 use Rattle.std.specs.List.{IsDistinct}
 use Rattle.std.proofs.lemmas.Option.{same_Some}
@@ -17,16 +17,15 @@ use Rattle.ir_code.specs.declared.program.Program.{Program}
 use Rattle.ir_machine.specs.declared.state.End.{End}
 use Rattle.ir_machine.specs.declared.state.End.TheVariants.{Returned, Stuck, Lost, Unfinished}
 use Rattle.ir_machine.specs.Values.{Registers}
-use Rattle.ir_machine.specs.Step.{blocks_in, run, start, unset, staged, steps_of, first_registers}
+use Rattle.ir_machine.specs.Step.{blocks_in, start, unset, staged, steps_of, first_registers}
 use Rattle.ir_resolve.specs.Resolved.{code_of, object_of, program_of}
-use Rattle.ir_check.specs.Paths.{IsLength}
 use Rattle.ir_check.specs.Checked.{IsChecked}
 use Rattle.ir_check.proofs.Lengths.{one_length}
 use Rattle.ir_walk.specs.LoopFree.{body_of}
 use Rattle.ir_walk.specs.Walk.{Memory, Flow, Goes, Back, Stops, Callee, on_entry, walk_steps, visit, visit_all, walk, end_of, end_of_walk}
 use Rattle.ir_walk.proofs.Through.{Holds, HoldsOf, steps_hold}
 use Rattle.ir_kernel.specs.Orders.{AreOrders}
-use Rattle.ir_kernel.specs.Runs.{CanCall, IsCall, IsRun}
+use Rattle.ir_kernel.specs.Runs.{CanCall, IsRun}
 use Rattle.ir_kernel.proofs.CodePlaces.{code_at}
 use Rattle.ir_kernel.proofs.Links.{run_walks}
 use Rattle.hk_symvalue.specs.Meaning.{is_true}
@@ -36,10 +35,9 @@ use Rattle.hk_symmem.specs.Origins.{AreOriginsOf}
 use Rattle.hk_symmem.specs.Guarded.{MemoryView, IsOver, memory_at}
 use Rattle.hk_symaccess.specs.Accesses.{FitsMemory}
 use Rattle.hk_symstep.specs.Files.{File, IsFile, registers_of}
-use Rattle.hk_symstep.specs.Held.{value_meaning}
 use Rattle.hk_symexec.specs.declared.exec.Exec.{Exec}
-use Rattle.hk_symexec.specs.Seen.{Seen, seen, called}
-use Rattle.hk_symexec.specs.Tracks.{Ending, On, HoldsBack, Rests, is_stuck, Shows}
+use Rattle.hk_symexec.specs.Seen.{seen, called}
+use Rattle.hk_symexec.specs.Tracks.{On, Rests, Shows}
 use Rattle.hk_symexec.specs.Runs.{Tells, IsDepth, arguments_at, held_numbers}
 use Rattle.hk_symexec.proofs.Visiting.{rests_shows, rests_back, rests_going}
 use Rattle.hk_symexec.proofs.Kept.{registers_kept, memory_kept}

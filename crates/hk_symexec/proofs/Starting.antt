@@ -1,5 +1,5 @@
 -- What the run of a function begins with: orders of blocks, a depth, and the registers of its arguments.
-use Rattle.std.proofs.Common.{◌≡◌, ◌⊎◌, inl, inr, ◌<◌, ◌≤◌, ◌+◌, ℕ, zero, suc, Option, Some, None, List, [], ◌∷◌, ◌++◌, map, length, slice_get, Contains, refl, sym, ap, ◌∙◌, subst, arith}
+use Rattle.std.proofs.Common.{◌≡◌, ◌⊎◌, inl, inr, ◌<◌, ◌≤◌, ◌+◌, ℕ, zero, suc, Option, Some, None, List, [], ◌∷◌, ◌++◌, length, slice_get, Contains, refl, sym, ap, ◌∙◌, subst, arith}
 use Rattle.std.proofs.lemmas.List.{get_or_append_left, get_or_push, get_or_past, length_push, length-map, append_assoc}
 use Rattle.std.proofs.lemmas.Option.{slice_get_within, none-some}
 use Rattle.hk_term.specs.Meaning.{Reading, value}
@@ -22,7 +22,7 @@ use Rattle.hk_symstep.specs.declared.state.SymHeld.{SymHeld}
 use Rattle.hk_symstep.specs.Held.{place_meaning, IsPlace}
 use Rattle.hk_symstep.specs.Files.{File, IsFile, registers_of}
 use Rattle.hk_symexec.specs.Tracks.{order_in}
-use Rattle.hk_symexec.specs.Runs.{arguments_at, held_numbers, IsDepth}
+use Rattle.hk_symexec.specs.Runs.{arguments_at, held_numbers}
 use Rattle.hk_symexec.proofs.Kept.{file_kept, registers_kept}
 use Rattle.hk_symexec.proofs.Calling.{file_push, registers_push, unset_more}
 

@@ -1,27 +1,24 @@
 -- How a state follows the blocks of a walk, and a call.
-use Rattle.std.proofs.Common.{◌≡◌, ◌≢◌, ◌⊎◌, inl, inr, ◌<◌, ◌≤◌, ◌+◌, ℕ, zero, suc, Bool, true, false, not, ◌&&◌, ◌||◌, ◌==◌, if◌then◌else◌, nat_eq, Option, Some, None, List, [], ◌∷◌, ◌++◌, map, length, drop, take, replicate, slice_get, slice_index_or, slice_set, refl, sym, ap, ◌∙◌, subst, arith}
+use Rattle.std.proofs.Common.{◌≡◌, ◌≢◌, ◌⊎◌, inl, inr, ◌<◌, ◌≤◌, ◌+◌, ℕ, zero, suc, Bool, true, false, not, ◌&&◌, if◌then◌else◌, nat_eq, Option, Some, None, List, [], ◌∷◌, ◌++◌, length, drop, take, replicate, slice_index_or, slice_set, refl, sym, ap, ◌∙◌, subst, arith}
 use Rattle.std.proofs.lemmas.List.{get_or-set_same, get_or-set_other, length-set, get_or-replicate, length-replicate}
 use Rattle.std.proofs.lemmas.Option.{slice_get_past}
 use Rattle.std.proofs.lemmas.Bool.{false≢true}
 use Rattle.std.proofs.lemmas.Bool.Decides.{eqb_tells}
 use Rattle.std.proofs.Math.Seq.{take-suc}
 use Rattle.ir_value.specs.declared.value.Value.{Value}
-use Rattle.ir_value.specs.declared.value.StuckReason.{StuckReason}
 use Rattle.ir_code.specs.declared.act.Step.{Step}
 use Rattle.ir_code.specs.declared.act.Act.{Act}
 use Rattle.ir_code.specs.declared.act.Act.TheVariants as act
 use Rattle.ir_code.specs.declared.program.Program.{Program}
-use Rattle.ir_machine.specs.declared.state.End.{End}
 use Rattle.ir_machine.specs.declared.state.End.TheVariants.{Returned, Stuck, Lost, Unfinished}
-use Rattle.ir_machine.specs.declared.state.Held.{Held}
 use Rattle.ir_machine.specs.declared.state.Held.TheVariants as held
 use Rattle.ir_machine.specs.Values.{Registers}
-use Rattle.ir_machine.specs.Step.{steps_in, steps_of, with_result, with_value}
+use Rattle.ir_machine.specs.Step.{steps_in, steps_of, with_result}
 use Rattle.ir_walk.specs.LoopFree.{body_of}
-use Rattle.ir_walk.specs.Walk.{Flow, Goes, Back, Stops, Memory, Behind, Callee, on_back, walk_act, walk_steps, visit, visit_all, walk}
+use Rattle.ir_walk.specs.Walk.{Flow, Goes, Back, Stops, Memory, Behind, Callee, on_back, walk_act, walk_steps, visit, visit_all}
 use Rattle.hk_symstep.specs.Files.{IsWithin}
 use Rattle.hk_symexec.specs.Seen.{Seen, entered, called, returned}
-use Rattle.hk_symexec.specs.Tracks.{Ending, Off, On, along, IsFineFlow, IsFine, Phase, Absent, Here, Going, Came, Halted, is_here, goes_to, is_back, is_valued, is_stuck, is_phi, heads_in, heads, Shows, IsEntry, HoldsBack, Stands, Tracks, nothing, Rests}
+use Rattle.hk_symexec.specs.Tracks.{Ending, Off, On, along, IsFineFlow, IsFine, Phase, Absent, Here, Going, Came, Halted, is_here, goes_to, is_back, is_phi, heads_in, heads, Shows, IsEntry, HoldsBack, Stands, Tracks, nothing, Rests}
 use Rattle.hk_symexec.proofs.Following.{Somewhere, elsewhere, off}
 
 and_false : (b : Bool) → (b && false) ≡ false

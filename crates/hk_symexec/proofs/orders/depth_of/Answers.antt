@@ -1,4 +1,4 @@
-use Rattle.std.proofs.Common.{◌≡◌, ◌≤◌, ◌<◌, arith}
+use Rattle.std.proofs.Common.{◌≤◌, arith}
 use Rattle.hk_symexec.proofs.Starting.{is_small}
 use Rattle.hk_symexec.proofs.orders.depth_of.Goals as goal
 

@@ -1,4 +1,4 @@
-use Rattle.std.proofs.Common.{rules, ◌≡◌, ◌<◌, ◌+◌, ℕ, None, List, [], ◌∷◌, ◌++◌, refl, sym, ap, ◌∙◌, subst, take, length, slice_index_or, arith}
+use Rattle.std.proofs.Common.{◌≡◌, ◌<◌, ◌+◌, None, [], ◌∷◌, ◌++◌, sym, subst, take, length}
 use Rattle.hk_symstep.specs.Files.{IsFile, registers_of}
 use Rattle.ir_machine.specs.Step.{unset}
 use Rattle.hk_symexec.specs.Runs.{arguments_at, held_numbers}

@@ -1,13 +1,5 @@
-use Rattle.std.proofs.Common.{◌≡◌, ◌++◌, true, false, length, refl, sym, ap, ◌∙◌, subst}
-use Rattle.ir_machine.specs.Step.{blocks_in}
-use Rattle.ir_walk.specs.LoopFree.{body_of}
-use Rattle.ir_walk.specs.Walk.{Goes}
-use Rattle.hk_symvalue.proofs.Frames.{followed}
 use Rattle.hk_symmem.specs.Guarded.{memory_at}
 use Rattle.hk_symstep.specs.Files.{registers_of}
-use Rattle.hk_symexec.specs.Seen.{seen, called}
-use Rattle.hk_symexec.specs.Tracks.{On, Rests}
-use Rattle.hk_symexec.proofs.Kept.{registers_kept, memory_kept}
 use Rattle.hk_symexec.proofs.Ending.{begins_outside}
 use Rattle.hk_symexec.proofs.whole.run_from.Goals as goal
 
