@@ -1,5 +1,5 @@
 -- A call follows its walk, from what its parts promise.
-use Rattle.std.proofs.Common.{◌≡◌, ◌<◌, ◌==◌, ℕ, Bool, true, false, if◌then◌else◌, Option, Some, None, List, length, refl, sym, ap, ◌∙◌, subst}
+use Rattle.std.proofs.Common.{◌≡◌, ℕ, Bool, true, false, Some, List, length, refl, sym, ap, ◌∙◌, subst}
 use Rattle.std.proofs.lemmas.Bool.{false≢true}
 use Rattle.hk_term.specs.Meaning.{Reading}
 use Rattle.hk_term.specs.declared.node.Node.{Node}
@@ -12,7 +12,7 @@ use Rattle.ir_machine.specs.declared.state.Held.TheVariants as held
 use Rattle.ir_machine.specs.Values.{Registers}
 use Rattle.ir_machine.specs.Step.{with_result}
 use Rattle.ir_walk.specs.LoopFree.{body_of}
-use Rattle.ir_walk.specs.Walk.{Memory, Behind, Callee, Flow, Goes, on_back, on_passed}
+use Rattle.ir_walk.specs.Walk.{Memory, Behind, Callee, Goes, on_back, on_passed}
 use Rattle.hk_symvalue.specs.Growth.{Extends}
 use Rattle.hk_symvalue.specs.Meaning.{is_true}
 use Rattle.hk_symvalue.proofs.Frames.{followed}
@@ -21,9 +21,9 @@ use Rattle.hk_symstep.specs.Held.{value_meaning}
 use Rattle.hk_symstep.specs.Steps.{AnswersPasses}
 use Rattle.hk_symstep.specs.Files.{File, IsWithin, Covers, registers_of}
 use Rattle.hk_symexec.specs.declared.exec.Exec.{Exec}
-use Rattle.hk_symexec.specs.Seen.{Seen, IsExec, seen, called, returned}
+use Rattle.hk_symexec.specs.Seen.{IsExec, seen, called, returned}
 use Rattle.hk_symexec.specs.Tracks.{Ending, Off, On, IsFineFlow, Splits, Tracks, Rests}
-use Rattle.hk_symexec.proofs.Kept.{seen_kept, memory_kept, registers_kept, over_kept}
+use Rattle.hk_symexec.proofs.Kept.{seen_kept, memory_kept}
 use Rattle.hk_symexec.proofs.Visiting.{calls}
 use Rattle.hk_symexec.proofs.PhiLaws.{covers_kept}
 

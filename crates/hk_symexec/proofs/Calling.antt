@@ -1,5 +1,5 @@
 -- The registers of a function as it begins, one after the other.
-use Rattle.std.proofs.Common.{◌≡◌, ◌<◌, ◌+◌, ◌-◌, ℕ, zero, suc, Option, Some, None, List, [], ◌∷◌, ◌++◌, map, length, take, slice_index_or, refl, sym, ap, ◌∙◌, subst, arith, length-append}
+use Rattle.std.proofs.Common.{◌≡◌, ◌+◌, ℕ, zero, suc, Option, Some, None, List, [], ◌∷◌, ◌++◌, length, refl, sym, ap, ◌∙◌, subst, arith, length-append}
 use Rattle.std.proofs.lemmas.Option.{none-some}
 use Rattle.std.proofs.lemmas.List.{append_assoc}
 use Rattle.hk_term.specs.Meaning.{Reading}
@@ -14,9 +14,9 @@ use Rattle.hk_symvalue.specs.Growth.{Extends}
 use Rattle.hk_symvalue.proofs.Frames.{followed}
 use Rattle.hk_symmem.specs.Guarded.{MemoryView, IsOver, memory_at}
 use Rattle.hk_symstep.specs.declared.state.SymHeld.{SymHeld}
-use Rattle.hk_symstep.specs.Held.{place_meaning, value_meaning, IsPlace, IsOperand}
-use Rattle.hk_symstep.specs.Files.{File, place_at, IsFile, IsWithin, Covers, registers_of}
-use Rattle.hk_symexec.proofs.Kept.{file_kept, registers_kept, memory_kept, place_kept}
+use Rattle.hk_symstep.specs.Held.{place_meaning, value_meaning, IsPlace}
+use Rattle.hk_symstep.specs.Files.{File, IsFile, IsWithin, Covers, registers_of}
+use Rattle.hk_symexec.proofs.Kept.{file_kept, registers_kept, memory_kept}
 use Rattle.hk_symexec.proofs.PhiLaws.{covers_kept}
 
 -- one register more on both sides
@@ -78,7 +78,7 @@ passing_on first now new file m arguments i places value p s in_first over grown
         by None e q = absurd (none-some h q)
         by (Some x) e q = ap argument_held (covered v rs x w (ap (λ k. value_of k rs i) (memory_kept first now s.frame m over v) ∙ e)) ∙ q
 
-unset_more : (n : ℕ) → unset (suc n) ≡ unset n ++ None ∷ []
+pub unset_more : (n : ℕ) → unset (suc n) ≡ unset n ++ None ∷ []
 unset_more zero = refl
 unset_more (suc n) = ap (λ l. None ∷ l) (unset_more n)
 

@@ -1,9 +1,9 @@
 -- A state that follows a walk follows it still as the list of terms grows.
-use Rattle.std.proofs.Common.{◌≡◌, ℕ, List, sym, subst}
+use Rattle.std.proofs.Common.{ℕ, List, sym, subst}
 use Rattle.hk_term.specs.Meaning.{Reading}
 use Rattle.hk_term.specs.declared.node.Node.{Node}
 use Rattle.ir_code.specs.declared.program.Program.{Program}
-use Rattle.ir_walk.specs.Walk.{Memory, Behind}
+use Rattle.ir_walk.specs.Walk.{Behind}
 use Rattle.hk_symvalue.specs.Growth.{Extends}
 use Rattle.hk_symmem.specs.Guarded.{MemoryView, IsOver, memory_at}
 use Rattle.hk_symexec.specs.declared.exec.Exec.{Exec}

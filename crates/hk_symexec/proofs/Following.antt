@@ -1,30 +1,25 @@
 -- How a state follows a walk as operations change both: laws on plain data.
-use Rattle.std.proofs.Common.{◌≡◌, ◌≢◌, ◌⊎◌, inl, inr, ◌<◌, ◌≤◌, ◌+◌, ℕ, zero, suc, Bool, true, false, not, ◌&&◌, ◌||◌, if◌then◌else◌, nat_eq, Option, Some, None, List, [], ◌∷◌, ◌++◌, map, length, drop, replicate, slice_index_or, slice_set, refl, sym, ap, ◌∙◌, subst, arith}
+use Rattle.std.proofs.Common.{◌≡◌, ◌≢◌, ◌⊎◌, inl, inr, ◌<◌, ◌+◌, ℕ, suc, Bool, true, false, not, ◌&&◌, ◌||◌, if◌then◌else◌, nat_eq, Option, Some, None, List, [], ◌∷◌, ◌++◌, length, slice_index_or, slice_set, refl, sym, ap, ◌∙◌, subst, arith}
 use Rattle.std.proofs.lemmas.List.{get_or-set_same, get_or-set_other, length-set}
 use Rattle.std.proofs.lemmas.Bool.{false≢true}
 use Rattle.std.proofs.lemmas.Bool.Decides.{eqb_tells}
 use Rattle.ir_value.specs.declared.value.Value.{Value}
-use Rattle.ir_value.specs.declared.value.StuckReason.{StuckReason}
 use Rattle.ir_code.specs.declared.act.Step.{Step}
 use Rattle.ir_code.specs.declared.act.Act.{Act}
 use Rattle.ir_code.specs.declared.act.Act.TheVariants as act
 use Rattle.ir_code.specs.declared.program.Program.{Program}
-use Rattle.ir_machine.specs.declared.state.End.{End}
-use Rattle.ir_machine.specs.declared.state.End.TheVariants.{Returned, Stuck, Lost, Unfinished}
-use Rattle.ir_machine.specs.declared.state.Held.{Held}
-use Rattle.ir_machine.specs.declared.state.Held.TheVariants as held
 use Rattle.ir_machine.specs.Values.{Registers}
 use Rattle.ir_machine.specs.declared.state.Head.{Head}
 use Rattle.ir_machine.specs.declared.state.Head.TheVariants as head
-use Rattle.ir_machine.specs.Step.{steps_of, arm_from, arm_value, phi_of, head_of, staged_on, staged, set_all, with_result, with_value}
+use Rattle.ir_machine.specs.Step.{steps_of, arm_from, arm_value, phi_of, head_of, staged_on, staged, set_all}
 use Rattle.std.specs.Option.{unwrap_or}
 use Rattle.std.proofs.lemmas.Option.{none-some}
 use Rattle.std.proofs.Common.{length-append}
 use Rattle.ir_walk.specs.LoopFree.{body_of}
-use Rattle.ir_walk.specs.Walk.{Flow, Goes, Back, Stops, Memory, Behind, Callee, on_entry, on_jump, on_back, walk_act, walk_steps, visit, visit_all}
+use Rattle.ir_walk.specs.Walk.{Back, Memory, Behind, on_entry, on_jump}
 use Rattle.hk_symstep.specs.Files.{IsWithin}
 use Rattle.hk_symexec.specs.Seen.{Seen, stuck_where, left_where, back_without, back_with}
-use Rattle.hk_symexec.specs.Tracks.{Ending, Off, On, along, IsFineFlow, IsFine, Phase, Absent, Here, Going, Came, Halted, is_here, goes_to, is_back, is_valued, is_stuck, is_phi, heads_in, heads, Shows, IsEntry, HoldsBack, Stands, Tracks, nothing, Rests, Splits}
+use Rattle.hk_symexec.specs.Tracks.{Ending, On, IsFineFlow, IsFine, Phase, Absent, Here, Going, Came, Halted, is_here, is_phi, heads_in, heads, Shows, Stands, Tracks, Splits}
 
 or_false : (b : Bool) → (b || false) ≡ b
 or_false true = refl

@@ -1,18 +1,16 @@
 -- What a state shows stays as the list of terms grows.
-use Rattle.std.proofs.Common.{◌≡◌, ◌<◌, ◌≤◌, ℕ, zero, suc, Bool, true, false, if◌then◌else◌, nat_eq, Option, Some, None, List, [], ◌∷◌, map, length, slice_index_or, refl, sym, ap, ◌∙◌, subst, arith}
+use Rattle.std.proofs.Common.{◌≡◌, ℕ, suc, if◌then◌else◌, nat_eq, Option, Some, None, List, [], ◌∷◌, slice_index_or, refl, sym, ap, ◌∙◌, arith}
 use Rattle.std.specs.List.{All}
 use Rattle.std.proofs.lemmas.List.Elements.{All-head, All-tail}
-use Rattle.hk_term.specs.Shape.{width}
 use Rattle.hk_term.specs.Meaning.{Reading, value}
 use Rattle.hk_term.specs.declared.node.Node.{Node}
 use Rattle.ir_machine.specs.declared.state.Held.TheVariants as held
-use Rattle.ir_machine.specs.Values.{Registers}
 use Rattle.hk_symvalue.specs.declared.value.SymValue.{SymValue}
 use Rattle.hk_symvalue.specs.Growth.{Extends}
 use Rattle.hk_symvalue.specs.Meaning.{IsTruth, IsWord, IsSym, is_true, meaning, stands_for}
 use Rattle.hk_symstep.specs.declared.state.SymHeld.{SymHeld}
 use Rattle.hk_symstep.specs.declared.state.SymHeld.TheVariants.{Value, Pair, Slot}
-use Rattle.hk_symstep.specs.Held.{held_meaning, stored_in, place_meaning, value_meaning, IsHeld, IsPlace, IsOperand}
+use Rattle.hk_symstep.specs.Held.{held_meaning, place_meaning, value_meaning, IsHeld, IsPlace, IsOperand}
 use Rattle.hk_symstep.specs.Files.{File, place_at, IsFile, registers_of}
 use Rattle.hk_symmem.specs.Guarded.{MemoryView, Keeps, IsOver, memory_at}
 use Rattle.hk_symmem.proofs.Laws.{memories_kept}

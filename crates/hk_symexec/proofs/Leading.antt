@@ -1,12 +1,12 @@
 -- What branches, switches, returns and stores come to, told by terms.
-use Rattle.std.proofs.Common.{◌≡◌, ◌≢◌, ◌⊎◌, inl, inr, ◌<◌, ◌-◌, ◌==◌, ◌&&◌, ℕ, Bool, true, false, if◌then◌else◌, nat_eq, Option, Some, None, List, [], ◌∷◌, refl, sym, ap, ◌∙◌, subst}
+use Rattle.std.proofs.Common.{◌≡◌, ◌≢◌, ◌⊎◌, inl, inr, ◌-◌, ◌==◌, ◌&&◌, ℕ, Bool, true, false, if◌then◌else◌, nat_eq, Option, Some, None, List, [], ◌∷◌, refl, sym, ap, ◌∙◌, subst}
 use Rattle.std.specs.Option.{unwrap_or}
 use Rattle.std.proofs.lemmas.Option.{none-some}
 use Rattle.std.proofs.lemmas.Bool.Decides.{eqb_tells}
 use Rattle.hk_term.specs.Meaning.{Reading, value}
 use Rattle.hk_term.specs.declared.node.Node.{Node}
 use Rattle.ir_value.specs.declared.value.Value.{Value}
-use Rattle.ir_value.specs.declared.value.Value.TheVariants.{Number, Null, Address, Poison}
+use Rattle.ir_value.specs.declared.value.Value.TheVariants.{Number, Null, Address}
 use Rattle.ir_value.specs.declared.value.StuckReason.TheVariants as u
 use Rattle.ir_code.specs.declared.act.Case.{Case}
 use Rattle.ir_code.specs.declared.act.Step.{Step}
@@ -21,21 +21,19 @@ use Rattle.std.proofs.lemmas.Bool.{false≢true}
 use Rattle.ir_machine.specs.Values.{Registers, computed}
 use Rattle.ir_machine.specs.Step.{branch_to, switch_to, case_of, steps_of, staged, set_all}
 use Rattle.ir_walk.specs.Walk.{Memory, Behind, Callee, Flow, walk_act, on_computed, on_entry, on_jump, on_target, on_value, on_store, Back}
-use Rattle.hk_symvalue.specs.declared.value.SymValue.{SymValue}
 use Rattle.hk_symvalue.specs.Growth.{Extends}
-use Rattle.hk_symvalue.specs.Meaning.{IsTruth, meaning, stands_for, is_true}
+use Rattle.hk_symvalue.specs.Meaning.{IsTruth, stands_for, is_true}
 use Rattle.hk_symstep.specs.Files.{IsWithin, Covers, registers_of}
 use Rattle.hk_symexec.specs.declared.phis.Phi.{Phi}
 use Rattle.hk_symexec.specs.Phis.{phis_meaning}
 use Rattle.hk_symvalue.proofs.Frames.{followed}
 use Rattle.hk_symmem.specs.Guarded.{MemoryView, IsOver, memory_at}
-use Rattle.hk_symstep.specs.Held.{value_meaning}
 use Rattle.hk_symexec.specs.declared.exec.Exec.{Exec}
 use Rattle.hk_symexec.specs.Seen.{IsExec, seen, left_where}
 use Rattle.hk_symexec.specs.Tracks.{Ending, is_computed, IsFineFlow, Splits, Tracks}
 use Rattle.hk_symexec.proofs.Following.{tracks_as, leaves}
 use Rattle.hk_symexec.proofs.Carrying.{carried}
-use Rattle.hk_symexec.proofs.Kept.{over_kept, true_kept, registers_kept, memory_kept}
+use Rattle.hk_symexec.proofs.Kept.{true_kept, registers_kept, memory_kept}
 
 some_is : {X : Type 0} (x y : X) → Some x ≡ Some y → x ≡ y
 some_is x y e = ap (λ o. unwrap_or o x) e

@@ -9,3 +9,5 @@ pub mod Leading
 pub mod Calling
 pub mod CallLaws
 pub mod Running
+pub mod Starting
+pub mod Ending

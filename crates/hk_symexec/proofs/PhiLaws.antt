@@ -1,7 +1,6 @@
 -- Phis as terms, step by step.
-use Rattle.std.proofs.Common.{◌≡◌, ◌⊎◌, inl, inr, ◌<◌, ◌+◌, ℕ, zero, suc, Bool, true, false, Option, Some, None, List, [], ◌∷◌, ◌++◌, map, length, take, drop, slice_index_or, slice_set, refl, sym, ap, ◌∙◌, subst, arith}
+use Rattle.std.proofs.Common.{◌≡◌, ◌⊎◌, inl, inr, ◌<◌, ◌+◌, ℕ, suc, Bool, true, false, Option, Some, None, List, [], ◌∷◌, ◌++◌, length, take, drop, slice_index_or, slice_set, refl, sym, ap, ◌∙◌, subst, arith}
 use Rattle.std.specs.Option.{unwrap_or}
-use Rattle.std.specs.List.{All}
 use Rattle.std.proofs.lemmas.Option.{none-some}
 use Rattle.std.proofs.Math.Seq.{take-suc, drop-cons}
 use Rattle.std.proofs.lemmas.Bool.{false≢true}
@@ -22,7 +21,7 @@ use Rattle.hk_symstep.specs.Held.{value_meaning}
 use Rattle.hk_symexec.specs.declared.phis.Phi.{Phi}
 use Rattle.hk_symexec.specs.declared.phis.SymHead.{SymHead}
 use Rattle.hk_symexec.specs.declared.phis.SymHead.TheVariants.{Ends, Lost, Reads}
-use Rattle.hk_symexec.specs.Phis.{phis_meaning, ArePhis, ReadsAs, AnswersHead}
+use Rattle.hk_symexec.specs.Phis.{phis_meaning, ArePhis, AnswersHead}
 use Rattle.hk_symexec.proofs.Kept.{true_kept, sym_kept, meaning_kept, registers_kept, memory_kept}
 use Rattle.hk_symvalue.specs.Meaning.{IsTruth, is_true}
 use Rattle.hk_symvalue.proofs.Frames.{followed}

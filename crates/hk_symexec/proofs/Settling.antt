@@ -1,17 +1,13 @@
 -- What a symbolic instruction's answer says of where the run goes on.
-use Rattle.std.proofs.Common.{◌≡◌, ◌<◌, ℕ, Bool, true, false, Option, Some, None, refl, sym, ap, ◌∙◌, subst}
-use Rattle.hk_term.specs.Meaning.{Reading}
-use Rattle.hk_term.specs.declared.node.Node.{Node}
-use Rattle.std.proofs.Common.{List}
+use Rattle.std.proofs.Common.{◌≡◌, ℕ, Bool, true, false, Some, refl, sym, ap}
 use Rattle.std.proofs.lemmas.Bool.{false≢true}
 use Rattle.ir_code.specs.declared.act.Step.{Step}
-use Rattle.ir_code.specs.declared.program.Program.{Program}
 use Rattle.ir_machine.specs.declared.state.Computed.{Computed}
 use Rattle.ir_machine.specs.declared.state.Computed.TheVariants as computed
 use Rattle.ir_machine.specs.declared.state.Held.{Held}
 use Rattle.ir_machine.specs.Values.{Registers}
 use Rattle.ir_machine.specs.Step.{with_result}
-use Rattle.ir_walk.specs.Walk.{Memory, Behind, Flow, on_computed, on_slot}
+use Rattle.ir_walk.specs.Walk.{Memory, Behind, on_computed, on_slot}
 use Rattle.hk_symstep.specs.Steps.{AnswersSets, AnswersPasses, AnswersLost}
 use Rattle.hk_symexec.specs.Tracks.{IsFineFlow, Splits}
 

@@ -1,27 +1,24 @@
 -- How a state follows the blocks of a walk, and a call.
-use Rattle.std.proofs.Common.{◌≡◌, ◌≢◌, ◌⊎◌, inl, inr, ◌<◌, ◌≤◌, ◌+◌, ℕ, zero, suc, Bool, true, false, not, ◌&&◌, ◌||◌, ◌==◌, if◌then◌else◌, nat_eq, Option, Some, None, List, [], ◌∷◌, ◌++◌, map, length, drop, take, replicate, slice_get, slice_index_or, slice_set, refl, sym, ap, ◌∙◌, subst, arith}
+use Rattle.std.proofs.Common.{◌≡◌, ◌≢◌, ◌⊎◌, inl, inr, ◌<◌, ◌≤◌, ◌+◌, ℕ, zero, suc, Bool, true, false, not, ◌&&◌, if◌then◌else◌, nat_eq, Option, Some, None, List, [], ◌∷◌, ◌++◌, length, drop, take, replicate, slice_index_or, slice_set, refl, sym, ap, ◌∙◌, subst, arith}
 use Rattle.std.proofs.lemmas.List.{get_or-set_same, get_or-set_other, length-set, get_or-replicate, length-replicate}
 use Rattle.std.proofs.lemmas.Option.{slice_get_past}
 use Rattle.std.proofs.lemmas.Bool.{false≢true}
 use Rattle.std.proofs.lemmas.Bool.Decides.{eqb_tells}
 use Rattle.std.proofs.Math.Seq.{take-suc}
 use Rattle.ir_value.specs.declared.value.Value.{Value}
-use Rattle.ir_value.specs.declared.value.StuckReason.{StuckReason}
 use Rattle.ir_code.specs.declared.act.Step.{Step}
 use Rattle.ir_code.specs.declared.act.Act.{Act}
 use Rattle.ir_code.specs.declared.act.Act.TheVariants as act
 use Rattle.ir_code.specs.declared.program.Program.{Program}
-use Rattle.ir_machine.specs.declared.state.End.{End}
 use Rattle.ir_machine.specs.declared.state.End.TheVariants.{Returned, Stuck, Lost, Unfinished}
-use Rattle.ir_machine.specs.declared.state.Held.{Held}
 use Rattle.ir_machine.specs.declared.state.Held.TheVariants as held
 use Rattle.ir_machine.specs.Values.{Registers}
-use Rattle.ir_machine.specs.Step.{steps_in, steps_of, with_result, with_value}
+use Rattle.ir_machine.specs.Step.{steps_in, steps_of, with_result}
 use Rattle.ir_walk.specs.LoopFree.{body_of}
-use Rattle.ir_walk.specs.Walk.{Flow, Goes, Back, Stops, Memory, Behind, Callee, on_back, walk_act, walk_steps, visit, visit_all, walk}
+use Rattle.ir_walk.specs.Walk.{Flow, Goes, Back, Stops, Memory, Behind, Callee, on_back, walk_act, walk_steps, visit, visit_all}
 use Rattle.hk_symstep.specs.Files.{IsWithin}
 use Rattle.hk_symexec.specs.Seen.{Seen, entered, called, returned}
-use Rattle.hk_symexec.specs.Tracks.{Ending, Off, On, along, IsFineFlow, IsFine, Phase, Absent, Here, Going, Came, Halted, is_here, goes_to, is_back, is_valued, is_stuck, is_phi, heads_in, heads, Shows, IsEntry, HoldsBack, Stands, Tracks, nothing, Rests}
+use Rattle.hk_symexec.specs.Tracks.{Ending, Off, On, along, IsFineFlow, IsFine, Phase, Absent, Here, Going, Came, Halted, is_here, goes_to, is_back, is_phi, heads_in, heads, Shows, IsEntry, HoldsBack, Stands, Tracks, nothing, Rests}
 use Rattle.hk_symexec.proofs.Following.{Somewhere, elsewhere, off}
 
 and_false : (b : Bool) → (b && false) ≡ false
@@ -222,7 +219,7 @@ value_in (On (Goes to position rs m)) = None
 value_in (On (Back x m)) = x
 value_in (On (Stops end)) = None
 
-abbrev phase_at : Ending → Phase
+abbrev pub phase_at : Ending → Phase
 phase_at (Off stuck m) = Absent stuck
 phase_at (On (Goes to position rs m)) = Going to
 phase_at (On (Back x m)) = Came x
@@ -278,7 +275,7 @@ entries_called n k b l = by (eqb_tells k 0)
         ap (λ j. slice_index_or (slice_set (replicate n false) 0 b) j false) same ∙ get_or-set_same (replicate n false) 0 b false (omega (arith, l, same, long)) ∙ ap (λ t. t && b) (sym q)
     by (inr (q, other)) = get_or-set_other (replicate n false) 0 k b false other ∙ get_or-replicate n k false false l ∙ ap (λ t. t && b) (sym q)
 
-module _ (W : Callee) (P : Program) (f g : ℕ) (s after : Seen) (memory behind : Memory) (step : Step) (go : Behind) (e : Ending) (first : Registers → Registers) (regs new : Registers) where
+module _ (P : Program) (g : ℕ) (s : Seen) (memory : Memory) (regs : Registers) where
   abbrev blocks : ℕ
   blocks = length (body_of P g)
 
@@ -305,18 +302,19 @@ module _ (W : Callee) (P : Program) (f g : ℕ) (s after : Seen) (memory behind 
     stuck = quiet;
   }
 
-  rests_absent : s.guard ≡ false → Rests P g begun memory (Off s.stuck memory)
+  pub rests_absent : s.guard ≡ false → Rests P g begun memory (Off s.stuck memory)
   unfolding Tracks
   rests_absent h fine = (Absent s.stuck, shows_absent h, refl)
 
-  rests_going : (rs : Registers) → s.guard ≡ true → s.stuck ≡ false → IsWithin rs regs → Rests P g begun memory (On (Goes 0 0 rs memory))
+  pub rests_going : (rs : Registers) → s.guard ≡ true → s.stuck ≡ false → IsWithin rs regs → Rests P g begun memory (On (Goes 0 0 rs memory))
   unfolding Tracks
   rests_going rs h quiet w fine = (Going 0, shows_going h quiet, (rs, 0, w, inr refl, refl))
 
+module _ (W : Callee) (P : Program) (f g : ℕ) (s after : Seen) (memory behind : Memory) (step : Step) (go : Behind) (e : Ending) (first : Registers → Registers) (regs new : Registers) where
   -- a function that is called follows its walk, so its caller does
   pub calls : (s.guard ≡ true → (rs : Registers) → IsWithin rs s.registers → IsWithin (first rs) regs)
-      → ((k : Bool) (m : Memory) → Rests P g begun memory (Off k m) → Rests P g after behind (Off k m))
-      → ((rs : Registers) (m : Memory) → Rests P g begun memory (On (Goes 0 0 rs m)) → Rests P g after behind (On (W g rs m)))
+      → ((k : Bool) (m : Memory) → Rests P g (called (length (body_of P g)) regs s) memory (Off k m) → Rests P g after behind (Off k m))
+      → ((rs : Registers) (m : Memory) → Rests P g (called (length (body_of P g)) regs s) memory (On (Goes 0 0 rs m)) → Rests P g after behind (On (W g rs m)))
       → (after.valued ≡ false → (rs : Registers) → IsWithin rs s.registers → IsWithin rs new)
       → (after.valued ≡ true → (x : Value) → after.value ≡ Some x → (rs : Registers) → IsWithin rs s.registers → IsWithin (with_result step.result (held.Value x) rs) new)
       → Tracks P f s memory (λ rs m. on_back step rs go (W g (first rs) m)) e → Tracks P f (returned after new s) behind go e
@@ -328,8 +326,8 @@ module _ (W : Callee) (P : Program) (f g : ℕ) (s after : Seen) (memory behind 
 
       away : (p : Phase) → is_here p ≡ false → Shows (length (body_of P f)) s p → Stands P f s.registers s.value memory one p e → Somewhere P f (returned after new s) behind go e
       away p n sh st =
-          let r : Rests P g after behind (Off s.stuck memory) = absent s.stuck memory (rests_absent (sh.guard ∙ n)) in
-          let d : Shows blocks after (Absent s.stuck) = rests_shows P g after behind (Off s.stuck memory) r tt in (
+          let r : Rests P g after behind (Off s.stuck memory) = absent s.stuck memory (rests_absent P g s memory regs (sh.guard ∙ n)) in
+          let d : Shows (length (body_of P g)) after (Absent s.stuck) = rests_shows P g after behind (Off s.stuck memory) r tt in (
             p,
             record {
               size = sh.size;
@@ -346,21 +344,21 @@ module _ (W : Callee) (P : Program) (f g : ℕ) (s after : Seen) (memory behind 
       at : (rs : Registers) → Shows (length (body_of P f)) s Here → IsWithin rs s.registers → (F : Flow) → Rests P g after behind (On F) → e ≡ On (on_back step rs go F) → Somewhere P f (returned after new s) behind go e
       at rs sh w (Goes to position rs' m) r q = absurd (subst IsFine q fine)
       at rs sh w (Back None m) r q =
-          let d : Shows blocks after (Came None) = rests_shows P g after behind (On (Back None m)) r tt in
+          let d : Shows (length (body_of P g)) after (Came None) = rests_shows P g after behind (On (Back None m)) r tt in
           let kept_back : HoldsBack after.value None × (behind ≡ m) = rests_back P g after behind None m r in (
             Here,
             record { size = sh.size; guard = d.back; entries = sh.entries; back = sh.back; valued = sh.valued; stuck = d.stuck },
             (rs, kept d.valued rs w, q ∙ ap (λ m'. On (go rs m')) (sym kept_back.1)),
           )
       at rs sh w (Back (Some x) m) r q =
-          let d : Shows blocks after (Came (Some x)) = rests_shows P g after behind (On (Back (Some x) m)) r tt in
+          let d : Shows (length (body_of P g)) after (Came (Some x)) = rests_shows P g after behind (On (Back (Some x) m)) r tt in
           let kept_back : HoldsBack after.value (Some x) × (behind ≡ m) = rests_back P g after behind (Some x) m r in (
             Here,
             record { size = sh.size; guard = d.back; entries = sh.entries; back = sh.back; valued = sh.valued; stuck = d.stuck },
             (with_result step.result (held.Value x) rs, set d.valued x kept_back.0 rs w, q ∙ ap (λ m'. On (go (with_result step.result (held.Value x) rs) m')) (sym kept_back.1)),
           )
       at rs sh w (Stops (Stuck reason line)) r q =
-          let d : Shows blocks after Halted = rests_shows P g after behind (On (Stops (Stuck reason line))) r tt in (
+          let d : Shows (length (body_of P g)) after Halted = rests_shows P g after behind (On (Stops (Stuck reason line))) r tt in (
             Halted,
             record { size = sh.size; guard = d.back; entries = sh.entries; back = sh.back; valued = sh.valued; stuck = d.stuck },
             (reason, line, q),
@@ -371,7 +369,7 @@ module _ (W : Callee) (P : Program) (f g : ℕ) (s after : Seen) (memory behind 
 
       by : Somewhere P f s memory one e → Somewhere P f (returned after new s) behind go e
       by (Absent k, sh, st) = away (Absent k) refl sh st
-      by (Here, sh, (rs, w, q)) = at rs sh w (W g (first rs) memory) (walked (first rs) memory (rests_going (first rs) sh.guard sh.stuck (arguments sh.guard rs w))) q
+      by (Here, sh, (rs, w, q)) = at rs sh w (W g (first rs) memory) (walked (first rs) memory (rests_going P g s memory regs (first rs) sh.guard sh.stuck (arguments sh.guard rs w))) q
       by (Going to, sh, st) = away (Going to) refl sh st
       by (Came x, sh, st) = away (Came x) refl sh st
       by (Halted, sh, st) = away Halted refl sh st

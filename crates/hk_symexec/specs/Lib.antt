@@ -1,3 +1,4 @@
 pub mod Seen
 pub mod Tracks
 pub mod Phis
+pub mod Runs

@@ -6,11 +6,10 @@ use Rattle.hk_term.specs.declared.node.Node.{Node}
 use Rattle.ir_value.specs.declared.value.Value.{Value}
 use Rattle.ir_machine.specs.declared.state.Head.{Head}
 use Rattle.ir_machine.specs.declared.state.Head.TheVariants as head
-use Rattle.hk_symvalue.specs.declared.value.SymValue.{SymValue}
 use Rattle.hk_symvalue.specs.Meaning.{IsSym, meaning}
 use Rattle.hk_symexec.specs.declared.phis.Phi.{Phi}
 use Rattle.hk_symexec.specs.declared.phis.SymHead.{SymHead}
-use Rattle.hk_symexec.specs.declared.phis.SymHead.TheVariants.{Ends, Lost, Reads}
+use Rattle.hk_symexec.specs.declared.phis.SymHead.TheVariants.{Ends, Reads}
 
 -- the register and the value of each phi
 abbrev pub phis_meaning : List Node → Reading → List Phi → List (ℕ × Value)

@@ -1,5 +1,5 @@
 -- What the symbolic state of a function that is executed shows under a reading.
-use Rattle.std.specs.Prelude.{◌≡◌, ℕ, ◌<◌, Bool, true, false, not, ◌&&◌, ◌||◌, nat_eq, Option, Some, None, List, map, length, replicate, slice_set, slice_index_or}
+use Rattle.std.specs.Prelude.{ℕ, Bool, false, not, ◌&&◌, ◌||◌, Option, None, List, map, replicate, slice_set, slice_index_or}
 use Rattle.std.specs.List.{All}
 use Rattle.hk_term.specs.Meaning.{Reading}
 use Rattle.hk_term.specs.declared.node.Node.{Node}

@@ -1,17 +1,16 @@
 -- Where a walk of a function is under a reading, and when a symbolic state follows it.
-use Rattle.std.specs.Prelude.{◌≡◌, ◌⊎◌, ℕ, suc, ◌+◌, ◌<◌, Bool, true, false, nat_eq, if◌then◌else◌, Option, Some, None, List, [], ◌∷◌, length, drop, slice_index_or}
+use Rattle.std.specs.Prelude.{◌≡◌, ◌⊎◌, ℕ, suc, ◌<◌, Bool, true, false, nat_eq, if◌then◌else◌, Option, Some, None, List, [], ◌∷◌, length, slice_index_or}
 use Rattle.ir_value.specs.declared.value.Value.{Value}
 use Rattle.ir_value.specs.declared.value.StuckReason.{StuckReason}
 use Rattle.ir_code.specs.declared.act.Step.{Step}
 use Rattle.ir_code.specs.declared.act.Act.{Act}
 use Rattle.ir_code.specs.declared.act.Act.TheVariants as act
 use Rattle.ir_code.specs.declared.program.Program.{Program}
-use Rattle.ir_machine.specs.declared.state.End.{End}
-use Rattle.ir_machine.specs.declared.state.End.TheVariants.{Returned, Stuck, Lost, Unfinished}
+use Rattle.ir_machine.specs.declared.state.End.TheVariants.{Stuck, Lost}
 use Rattle.ir_machine.specs.Values.{Registers}
 use Rattle.ir_machine.specs.Step.{steps_of}
 use Rattle.ir_walk.specs.LoopFree.{body_of}
-use Rattle.ir_walk.specs.Walk.{Flow, Goes, Back, Stops, Memory, Behind, Callee, visit, visit_all}
+use Rattle.ir_walk.specs.Walk.{Flow, Goes, Back, Stops, Memory, Behind}
 use Rattle.hk_symstep.specs.Files.{IsWithin}
 use Rattle.hk_symexec.specs.Seen.{Seen}
 

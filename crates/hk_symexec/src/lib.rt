@@ -13,10 +13,14 @@ mod instructions;
 mod jumps;
 mod leads;
 mod marks;
+mod orders;
 mod phis;
 mod returns;
 mod run;
 mod settle;
+mod starts;
 mod truths;
+mod whole;
 
 pub use exec::Exec;
+pub use whole::{SymRun, execute};

@@ -360,7 +360,7 @@ fn run_blocks<R: InitialReads>(
 /// A function, with calls less than `depth` deep. Where calls go deeper nothing is claimed.
 #[cycle(running)]
 #[tactic(auto, using(crate::proofs::Kept::over_kept, crate::proofs::Kept::exec_kept, crate::proofs::Running::fits_kept))]
-fn run_function<R: InitialReads>(
+pub(crate) fn run_function<R: InitialReads>(
     alloc: Global,
     t: &mut Terms,
     layout: &Layout,

@@ -1,5 +1,4 @@
-use Rattle.std.proofs.Common.{rules, ◌≡◌, ◌<◌, ◌+◌, ◌&&◌, ◌||◌, not, ℕ, Bool, true, false, if◌then◌else◌, nat_eq, Option, Some, None, List, [], ◌∷◌, ◌++◌, refl, sym, ap, ◌∙◌, subst, take, drop, length, slice_set, slice_index_or, arith}
-use Rattle.hk_symvalue.specs.Meaning.{is_true}
+use Rattle.std.proofs.Common.{ap, ◌∙◌}
 use Rattle.hk_symexec.specs.Seen.{entries_seen}
 use Rattle.hk_symexec.proofs.Kept.{true_kept, operand_same, registers_kept}
 use Rattle.hk_symexec.proofs.EntryLaws.{entry_taken, entry_at}

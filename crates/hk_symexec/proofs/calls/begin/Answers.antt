@@ -1,7 +1,7 @@
-use Rattle.std.proofs.Common.{rules, ◌≡◌, ◌<◌, ◌+◌, ◌&&◌, ◌||◌, not, ℕ, Bool, true, false, if◌then◌else◌, nat_eq, Option, Some, None, List, [], ◌∷◌, ◌++◌, refl, sym, ap, ◌∙◌, subst, take, drop, length, slice_set, slice_index_or, arith}
+use Rattle.std.proofs.Common.{None, ap, ◌∙◌, slice_set}
 use Rattle.hk_symvalue.specs.Meaning.{is_true}
 use Rattle.hk_symexec.specs.Seen.{entries_seen}
-use Rattle.hk_symexec.proofs.Kept.{true_kept, operand_same, registers_kept}
+use Rattle.hk_symexec.proofs.Kept.{true_kept, registers_kept}
 use Rattle.hk_symexec.proofs.EntryLaws.{entries_begun}
 use Rattle.hk_symexec.proofs.calls.begin.Goals as goal
 

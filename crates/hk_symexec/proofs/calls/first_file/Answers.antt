@@ -1,4 +1,4 @@
-use Rattle.std.proofs.Common.{rules, ◌≡◌, ◌<◌, ◌+◌, ◌&&◌, ◌||◌, not, ℕ, Bool, true, false, if◌then◌else◌, nat_eq, Option, Some, None, List, [], ◌∷◌, ◌++◌, refl, sym, ap, ◌∙◌, subst, take, drop, length, slice_set, slice_index_or, arith}
+use Rattle.std.proofs.Common.{◌+◌, None, [], ◌∷◌, ◌++◌, sym, subst, take}
 use Rattle.hk_symstep.specs.Files.{IsFile, IsWithin, registers_of}
 use Rattle.ir_machine.specs.Step.{argument_registers, unset}
 use Rattle.hk_symmem.specs.Guarded.{memory_at}

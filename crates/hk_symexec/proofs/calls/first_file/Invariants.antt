@@ -1,4 +1,4 @@
-use Rattle.std.proofs.Common.{◌≡◌, ◌+◌, ◌++◌, take}
+use Rattle.std.proofs.Common.{◌++◌, take}
 use Rattle.hk_term.specs.Meaning.{Reading}
 use Rattle.ir_machine.specs.Values.{Registers}
 use Rattle.ir_machine.specs.Step.{argument_registers, unset}

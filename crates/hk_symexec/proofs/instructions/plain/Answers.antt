@@ -1,23 +1,11 @@
-use Rattle.std.proofs.Common.{rules, ◌≡◌, ◌<◌, ◌+◌, ◌*◌, ◌-◌, ◌&&◌, ◌||◌, not, ℕ, Bool, true, false, if◌then◌else◌, nat_eq, Option, Some, None, List, [], ◌∷◌, ◌++◌, refl, sym, ap, ◌∙◌, subst, take, drop, length, slice_get, slice_set, slice_index_or, arith}
-use Rattle.ir_value.specs.declared.value.StuckReason.TheVariants as u
-use Rattle.ir_machine.specs.declared.state.End.TheVariants.{Stuck}
-use Rattle.ir_machine.specs.Values.{Registers, value_of, held_at, computed, arguments_pass}
-use Rattle.ir_machine.specs.Step.{switch_to, slot_stored, first_registers, argument_registers}
-use Rattle.ir_walk.specs.Walk.{Behind, Memory, Stops, on_computed, on_slot, on_target, on_back, on_passed, on_call, walk_act, walk_steps, walk, visit, visit_all}
-use Rattle.hk_symvalue.specs.Growth.{Extends}
-use Rattle.hk_symvalue.specs.Meaning.{is_true}
-use Rattle.hk_symmem.specs.Guarded.{IsOver, memory_at}
-use Rattle.hk_symstep.specs.Files.{IsWithin, Covers, registers_of}
-use Rattle.hk_symstep.specs.Steps.{AnswersComputed, AnswersPasses}
+use Rattle.std.proofs.Common.{refl, sym, subst}
+use Rattle.ir_machine.specs.Values.{value_of}
+use Rattle.ir_machine.specs.Step.{switch_to}
+use Rattle.ir_walk.specs.Walk.{on_target, walk_act}
+use Rattle.hk_symmem.specs.Guarded.{memory_at}
 use Rattle.hk_symexec.specs.Seen.{seen}
-use Rattle.hk_symexec.specs.Tracks.{Tracks, Rests, Splits, along, order_in}
-use Rattle.hk_symexec.proofs.Kept.{over_kept, exec_kept, seen_kept, memory_kept}
-use Rattle.hk_symexec.proofs.PhiLaws.{covers_back, covers_kept}
-use Rattle.hk_symexec.proofs.Following.{tracks_as}
-use Rattle.hk_symexec.proofs.Carrying.{carried, memory_carried}
-use Rattle.hk_symexec.proofs.CallLaws.{passed_splits, call_follows}
-use Rattle.hk_symexec.proofs.Visiting.{begins, passes_closed, passes_beyond}
-use Rattle.hk_symexec.proofs.Running.{fits_kept, Stepping, stepping_on, Touring, touring_on, walk_deeper, no_depth, take_all}
+use Rattle.hk_symexec.specs.Tracks.{Tracks}
+use Rattle.hk_symexec.proofs.Kept.{over_kept}
 use Rattle.hk_symexec.proofs.instructions.plain.Goals as goal
 
 pub returns-in_ok-made-in-Store-clause-tracks : goal.returns-in_ok-made-in-Store-clause-tracks

@@ -1,8 +1,7 @@
-use Rattle.std.proofs.Common.{rules, ◌≡◌, ◌<◌, ◌+◌, ◌&&◌, ◌||◌, not, ℕ, Bool, true, false, if◌then◌else◌, nat_eq, Option, Some, None, List, [], ◌∷◌, ◌++◌, refl, sym, ap, ◌∙◌, subst, take, drop, length, slice_set, slice_index_or, arith}
+use Rattle.std.proofs.Common.{◌≡◌, Some, [], sym, ap, ◌∙◌, subst}
 use Rattle.ir_machine.specs.Step.{staged}
 use Rattle.hk_symmem.specs.Guarded.{memory_at}
-use Rattle.hk_symvalue.specs.Meaning.{is_true}
-use Rattle.hk_symexec.specs.Phis.{staged_meaning, phis_meaning, AreStaged, ArePhis}
+use Rattle.hk_symexec.specs.Phis.{staged_meaning, phis_meaning}
 use Rattle.hk_symexec.proofs.Leading.{jump_none, jump_follows}
 use Rattle.hk_symexec.proofs.Carrying.{memory_carried}
 use Rattle.hk_symexec.specs.Seen.{seen}

@@ -1,18 +1,14 @@
-use Rattle.std.proofs.Common.{rules, ◌≡◌, ◌<◌, ◌+◌, ◌&&◌, ◌||◌, not, ℕ, Bool, true, false, if◌then◌else◌, nat_eq, Option, Some, None, List, [], ◌∷◌, ◌++◌, refl, sym, ap, ◌∙◌, subst, take, drop, length, slice_set, slice_index_or, arith}
-use Rattle.hk_term.specs.Meaning.{value}
+use Rattle.std.proofs.Common.{◌≡◌, Some, subst}
 use Rattle.ir_machine.specs.Values.{value_of}
-use Rattle.ir_machine.specs.Step.{branch_to, switch_to, case_of}
-use Rattle.ir_walk.specs.Walk.{Behind, on_jump, on_target, on_value}
-use Rattle.hk_symvalue.specs.Growth.{Extends}
-use Rattle.hk_symvalue.specs.Meaning.{is_true, meaning}
-use Rattle.hk_symmem.specs.Guarded.{IsOver, memory_at}
+use Rattle.ir_machine.specs.Step.{switch_to}
+use Rattle.ir_walk.specs.Walk.{Behind, on_target}
+use Rattle.hk_symvalue.specs.Meaning.{meaning}
+use Rattle.hk_symmem.specs.Guarded.{memory_at}
 use Rattle.hk_symstep.specs.Held.{value_meaning}
 use Rattle.hk_symexec.specs.Seen.{seen}
-use Rattle.hk_symexec.specs.Tracks.{Tracks}
-use Rattle.hk_symexec.proofs.Kept.{over_kept, exec_kept}
-use Rattle.hk_symexec.proofs.Following.{tracks_as, sticks}
-use Rattle.hk_symexec.proofs.Carrying.{carried, memory_carried}
-use Rattle.hk_symexec.proofs.Leading.{on_operand, off_operand, branch_splits, switch_splits, value_splits, Casing, casing_on}
+use Rattle.hk_symexec.proofs.Following.{tracks_as}
+use Rattle.hk_symexec.proofs.Carrying.{carried}
+use Rattle.hk_symexec.proofs.Leading.{on_operand, off_operand}
 use Rattle.hk_symexec.proofs.leads.switch.Goals as goal
 
 pub returns-in-None-clause-tracks : goal.returns-in-None-clause-tracks

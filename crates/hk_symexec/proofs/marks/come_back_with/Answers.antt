@@ -1,6 +1,6 @@
-use Rattle.std.proofs.Common.{rules, ◌≡◌, ℕ, ◌<◌, true, false, Bool, Some, refl, sym, ap, ◌∙◌, subst, not, ◌&&◌, ◌||◌, arith}
+use Rattle.std.proofs.Common.{rules, Some, refl, ap, ◌∙◌}
 use Rattle.hk_symvalue.specs.Growth.{Extends}
-use Rattle.hk_symexec.proofs.Kept.{true_kept, operand_same, seen_by, seen_with_file, meaning_kept}
+use Rattle.hk_symexec.proofs.Kept.{true_kept, seen_by, meaning_kept}
 use Rattle.hk_symexec.proofs.marks.come_back_with.Goals as goal
 
 pub returns-clause-seen : goal.returns-clause-seen

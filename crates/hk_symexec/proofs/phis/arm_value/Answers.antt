@@ -1,4 +1,4 @@
-use Rattle.std.proofs.Common.{rules, ◌≡◌, ◌<◌, ◌+◌, ◌&&◌, ◌||◌, not, ℕ, Bool, true, false, if◌then◌else◌, nat_eq, Option, Some, None, List, [], ◌∷◌, ◌++◌, refl, sym, ap, ◌∙◌, subst, take, drop, length, slice_set, slice_index_or, arith}
+use Rattle.std.proofs.Common.{◌≡◌, Some, subst}
 use Rattle.ir_machine.specs.Step.{arm_value}
 use Rattle.hk_symmem.specs.Guarded.{memory_at}
 use Rattle.hk_symexec.proofs.phis.arm_value.Goals as goal

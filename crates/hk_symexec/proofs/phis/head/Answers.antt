@@ -1,4 +1,4 @@
-use Rattle.std.proofs.Common.{rules, ◌≡◌, ◌<◌, ◌+◌, ◌&&◌, ◌||◌, not, ℕ, Bool, true, false, if◌then◌else◌, nat_eq, Option, Some, None, List, [], ◌∷◌, ◌++◌, refl, sym, ap, ◌∙◌, subst, take, drop, length, slice_set, slice_index_or, arith}
+use Rattle.std.proofs.Common.{sym, subst}
 use Rattle.ir_machine.specs.Step.{phi_of, head_of, arm_value, arm_from}
 use Rattle.hk_symmem.specs.Guarded.{memory_at}
 use Rattle.hk_symexec.specs.Phis.{AnswersHead}

@@ -1,4 +1,4 @@
-use Rattle.std.proofs.Common.{rules, ◌≡◌, ◌<◌, ◌+◌, ◌&&◌, ◌||◌, not, ℕ, Bool, true, false, if◌then◌else◌, nat_eq, Option, Some, None, List, [], ◌∷◌, ◌++◌, refl, sym, ap, ◌∙◌, subst, take, drop, length, slice_set, slice_index_or, arith}
+use Rattle.std.proofs.Common.{sym, subst, take}
 use Rattle.hk_symvalue.specs.Meaning.{IsSym}
 use Rattle.hk_symexec.specs.declared.phis.Phi.{Phi}
 use Rattle.hk_symexec.proofs.PhiLaws.{Setting, setting_on, take_next}

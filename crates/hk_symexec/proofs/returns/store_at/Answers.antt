@@ -1,18 +1,14 @@
-use Rattle.std.proofs.Common.{rules, ◌≡◌, ◌<◌, ◌+◌, ◌&&◌, ◌||◌, not, ℕ, Bool, true, false, if◌then◌else◌, nat_eq, Option, Some, None, List, [], ◌∷◌, ◌++◌, refl, sym, ap, ◌∙◌, subst, take, drop, length, slice_set, slice_index_or, arith}
-use Rattle.hk_term.specs.Meaning.{value}
-use Rattle.ir_machine.specs.Values.{value_of}
+use Rattle.std.proofs.Common.{Some, sym, ap, ◌∙◌, subst}
 use Rattle.ir_machine.specs.Step.{stored}
-use Rattle.ir_walk.specs.Walk.{Back, on_value, on_return, on_store}
-use Rattle.hk_symvalue.specs.Growth.{Extends}
+use Rattle.ir_walk.specs.Walk.{on_store}
 use Rattle.hk_symvalue.specs.Meaning.{is_true, meaning}
 use Rattle.hk_symmem.specs.Guarded.{memory_at}
-use Rattle.hk_symstep.specs.Held.{value_meaning}
 use Rattle.hk_symexec.specs.Seen.{seen}
 use Rattle.hk_symexec.specs.Tracks.{Tracks}
-use Rattle.hk_symexec.proofs.Kept.{over_kept, exec_kept, meaning_kept, seen_kept}
-use Rattle.hk_symexec.proofs.Following.{tracks_as, sticks, comes_back, comes_with, writes}
-use Rattle.hk_symexec.proofs.Carrying.{carried, memory_carried}
-use Rattle.hk_symexec.proofs.Leading.{on_operand, off_operand, value_splits, store_splits}
+use Rattle.hk_symexec.proofs.Kept.{seen_kept}
+use Rattle.hk_symexec.proofs.Following.{writes}
+use Rattle.hk_symexec.proofs.Carrying.{memory_carried}
+use Rattle.hk_symexec.proofs.Leading.{store_splits}
 use Rattle.hk_symexec.proofs.returns.store_at.Goals as goal
 
 pub returns-clause-tracks : goal.returns-clause-tracks

@@ -1,28 +1,26 @@
-use Rattle.std.proofs.Common.{rules, ◌≡◌, ◌<◌, ◌≤◌, ◌+◌, ◌*◌, ◌-◌, ◌&&◌, ◌||◌, not, ℕ, Bool, true, false, if◌then◌else◌, nat_eq, Option, Some, None, List, [], ◌∷◌, ◌++◌, refl, sym, ap, ◌∙◌, subst, take, drop, length, slice_get, slice_set, slice_index_or, arith}
-use Rattle.ir_value.specs.declared.value.StuckReason.TheVariants as u
-use Rattle.ir_machine.specs.declared.state.End.TheVariants.{Stuck, Lost}
-use Rattle.ir_machine.specs.Values.{Registers, value_of, held_at, computed, arguments_pass}
-use Rattle.ir_machine.specs.Step.{steps_of, switch_to, slot_stored, first_registers, argument_registers}
-use Rattle.ir_walk.specs.Walk.{Behind, Memory, Goes, Stops, on_computed, on_slot, on_target, on_back, on_passed, on_call, walk_act, walk_steps, walk, visit, visit_all}
-use Rattle.hk_symvalue.specs.Growth.{Extends}
+use Rattle.std.proofs.Common.{rules, ◌≡◌, ◌<◌, ◌≤◌, ◌+◌, true, false, if◌then◌else◌, nat_eq, Some, None, refl, sym, ap, ◌∙◌, subst, drop, length, slice_get, slice_index_or, arith}
+use Rattle.ir_machine.specs.declared.state.End.TheVariants.{Lost}
+use Rattle.ir_machine.specs.Values.{Registers, arguments_pass}
+use Rattle.ir_machine.specs.Step.{steps_of, first_registers, argument_registers}
+use Rattle.ir_walk.specs.Walk.{Behind, Memory, Goes, Stops, on_back, on_passed, on_call, walk_act, walk_steps, walk, visit, visit_all}
 use Rattle.hk_symvalue.specs.Meaning.{is_true}
 use Rattle.hk_symmem.specs.Guarded.{IsOver, memory_at}
-use Rattle.hk_symstep.specs.Files.{IsWithin, Covers, registers_of}
-use Rattle.hk_symstep.specs.Steps.{AnswersComputed, AnswersPasses}
+use Rattle.hk_symstep.specs.Files.{IsWithin, registers_of}
+use Rattle.hk_symstep.specs.Steps.{AnswersPasses}
 use Rattle.hk_symexec.specs.Seen.{seen}
-use Rattle.hk_symexec.specs.Tracks.{Off, On, IsFineFlow, Tracks, Rests, Splits, along, heads, heads_in, order_in}
-use Rattle.hk_symexec.proofs.Kept.{over_kept, exec_kept, seen_kept, memory_kept}
-use Rattle.hk_symexec.proofs.PhiLaws.{covers_back, covers_kept}
+use Rattle.hk_symexec.specs.Tracks.{Off, On, IsFineFlow, Tracks, Rests, along, heads, heads_in, order_in}
+use Rattle.hk_symexec.proofs.Kept.{over_kept, exec_kept, memory_kept}
+use Rattle.hk_symexec.proofs.PhiLaws.{covers_back}
 use Rattle.hk_symexec.proofs.Following.{tracks_as}
 use Rattle.hk_symexec.proofs.Carrying.{carried, memory_carried}
 use Rattle.hk_symexec.proofs.CallLaws.{passed_splits, call_follows}
 use Rattle.hk_symexec.proofs.Visiting.{begins, passes_closed, passes_beyond}
-use Rattle.hk_symexec.proofs.Running.{fits_kept, Stepping, stepping_on, Touring, touring_on, walk_deeper, no_depth, take_all}
+use Rattle.hk_symexec.proofs.Running.{Stepping, stepping_on, touring_on, walk_deeper, no_depth, take_all}
 use Rattle.std.proofs.lemmas.List.{drop_all}
 use Rattle.ir_walk.specs.LoopFree.{body_of}
 use Rattle.ir_machine.specs.Step.{blocks_in}
 use Rattle.hk_symexec.specs.Seen.{entries_seen, called}
-use Rattle.hk_symexec.proofs.PhiLaws.{drop_next, take_next}
+use Rattle.hk_symexec.proofs.PhiLaws.{drop_next}
 use Rattle.hk_symexec.proofs.EntryLaws.{long_seen, entry_shut}
 use Rattle.std.proofs.lemmas.Bool.{eq-eqb}
 use Rattle.hk_symvalue.proofs.Frames.{followed}

@@ -1,15 +1,11 @@
-use Rattle.std.proofs.Common.{rules, ◌≡◌, ℕ, ◌<◌, true, false, Bool, Option, Some, refl, sym, ap, ◌∙◌, subst, slice_set}
-use Rattle.hk_symvalue.specs.Growth.{Extends}
+use Rattle.std.proofs.Common.{sym, subst}
 use Rattle.hk_symvalue.specs.Meaning.{is_true}
 use Rattle.hk_symstep.specs.Held.{held_meaning}
-use Rattle.hk_symstep.specs.Files.{registers_of}
 use Rattle.ir_machine.specs.Step.{with_result}
-use Rattle.ir_walk.specs.Walk.{on_computed, on_slot}
 use Rattle.hk_symexec.specs.Seen.{seen}
 use Rattle.hk_symexec.specs.Tracks.{Tracks, Splits}
 use Rattle.hk_symexec.proofs.Kept.{held_same}
-use Rattle.hk_symexec.proofs.Following.{tracks_as, sticks, sets}
-use Rattle.hk_symexec.proofs.Settling.{sets_split, passes_split, lost_same, slot_split, slot_passes, slot_lost}
+use Rattle.hk_symexec.proofs.Following.{sticks}
 use Rattle.hk_symexec.proofs.settle.settle_sets.Goals as goal
 
 pub returns-clause-tracks : goal.returns-clause-tracks
