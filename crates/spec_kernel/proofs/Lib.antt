@@ -6,3 +6,4 @@ pub mod NameLaws
 pub mod StepLaws
 pub mod RowLaws
 pub mod Made
+pub mod WidthLaws

@@ -6,3 +6,4 @@ pub mod Firsts
 pub mod Seen
 pub mod Steps
 pub mod Handlers
+pub mod Widths

@@ -3,15 +3,19 @@
 //! A checked module and its layout come in once; globals and functions are then found by their names, and shapes are walked by their
 //! numbers, each in constant time.
 
-ghost use Rattle.std.specs.Prelude.{◌≡◌, ◌<◌, ◌^◌, ℕ, Some, length, map, slice_get, option_map, IfOk, IfSome};
+ghost use Rattle.std.specs.Prelude.{◌≡◌, ◌<◌, ◌^◌, ◌↔◌, ℕ, IsTrue, Some, length, map, slice_get, option_map, IfOk, IfSome};
+ghost use Rattle.std.specs.List.{list_all};
 ghost use Rattle.ir_ast.specs.ProgramView.{view_module};
 ghost use Rattle.ir_layout.specs.Layouts.{IsLayoutOf};
 ghost use Rattle.spec_names.specs.Kernel.{global_place, function_place, elements_of, part_of, bytes_of};
 ghost use Rattle.spec_kernel.specs.View.{kernel_of};
 ghost use Rattle.ir_measure.specs.Shaped.{IsSound};
+ghost use Rattle.spec_kernel.specs.Firsts.{texts};
 ghost use Rattle.spec_kernel.specs.Handlers as definition;
 ghost use Rattle.spec_kernel.specs.Seen.{see_function, view_value, function_in, kernel_in, shape_at, shape_in, IsShape, IsKnown};
 ghost use Rattle.spec_kernel.specs.Steps.{bytes_at, view_elements, view_part};
+ghost use Rattle.spec_kernel.specs.Widths as widths;
+ghost use Rattle.spec_kernel.specs.Widths.{HaveWidths};
 
 use crate::firsts::{Firsts, function_places, global_places};
 use crate::making::{function_rows, global_rows};
@@ -67,6 +71,18 @@ fn function_at<'a, 'k>(functions: &'a [FunctionRow<'k>], place: u32) -> &'a Func
     ensures { slice_get functions.now place ≡ Some result.now }
 {
     &functions[place as usize]
+}
+
+/// Whether the integers that these functions take and give have 1 to 64 bits.
+fn have_widths(functions: &[FunctionRow<'_>]) -> bool
+    ensures { result ≡ list_all (λ r. widths.has_widths (function_in (see_function r))) functions.now }
+{
+    'each: for function in functions {
+        if !function.has_widths() {
+            return false;
+        }
+    }
+    true
 }
 
 /// A field at this offset, where there is one.
@@ -195,6 +211,13 @@ impl<'k> KernelNames<'k> {
         self.function_places.get(name)
     }
 
+    /// How many functions there are. It takes no memory.
+    pub fn functions(&self) -> u32
+        ensures { result ≡ length (kernel_in self.now).functions }
+    {
+        self.functions.len() as u32
+    }
+
     /// What is kept of the function at a place.
     fn row(&self, function: u32) -> &FunctionRow<'k>
         requires { function < length self.now.functions }
@@ -241,5 +264,36 @@ impl<'k> KernelNames<'k> {
         ensures { option_map (λ f. f.result) (slice_get (kernel_in self.now).functions function) ≡ Some (option_map view_value result) }
     {
         self.row(function).result
+    }
+
+    /// The name of the function at a place. It takes no memory.
+    pub fn name(&self, function: u32) -> &'k [u8]
+        requires { function < length self.now.functions }
+        ensures { option_map (λ f. f.name) (slice_get (kernel_in self.now).functions function) ≡ Some result.now }
+    {
+        self.row(function).name
+    }
+
+    /// Whether the function at a place has a body. It takes no memory.
+    pub fn is_defined(&self, function: u32) -> bool
+        requires { function < length self.now.functions }
+        ensures { option_map (λ f. f.defined) (slice_get (kernel_in self.now).functions function) ≡ Some result }
+    {
+        self.row(function).defined
+    }
+
+    /// The names of the functions that the function at a place calls, one for each call, in the order of the text. It takes no memory.
+    pub fn calls(&self, function: u32) -> &[&'k [u8]]
+        requires { function < length self.now.functions }
+        ensures { option_map (λ f. f.calls) (slice_get (kernel_in self.now).functions function) ≡ Some (texts result.now) }
+    {
+        self.row(function).calls.as_slice()
+    }
+
+    /// Whether the integers that functions take and give have 1 to 64 bits. It takes no memory, and time linear in the functions.
+    pub fn has_widths(&self) -> bool
+        ensures { IsTrue result ↔ HaveWidths (kernel_in self.now) }
+    {
+        have_widths(self.functions.as_slice())
     }
 }

@@ -1,8 +1,9 @@
 //! What is kept of globals and of functions.
 
 ghost use Rattle.std.specs.Prelude.{◌≡◌, Some, map, option_map};
-ghost use Rattle.std.specs.List.{list_any};
+ghost use Rattle.std.specs.List.{list_any, list_all};
 ghost use Rattle.spec_kernel.specs.Handlers as definition;
+ghost use Rattle.spec_kernel.specs.Widths as widths;
 ghost use Rattle.spec_kernel.specs.Seen.{view_value, function_in, see_function};
 
 /// The type of a parameter or a result.
@@ -69,6 +70,45 @@ fn gives_address(result_type: Option<ValueType>) -> bool
     }
 }
 
+/// Whether a width has 1 to 64 bits.
+fn is_width(width: u32) -> bool
+    ensures { result ≡ widths.is_width width }
+{
+    1 <= width && width <= 64
+}
+
+/// Whether a value is a pointer, or an integer of 1 to 64 bits.
+fn is_value_width(value: &ValueType) -> bool
+    ensures { result ≡ widths.is_value_width (view_value value.now) }
+{
+    match value {
+        ValueType::Int(width) => is_width(*width),
+        ValueType::Ptr => true,
+    }
+}
+
+/// Whether each of these is a pointer, or an integer of 1 to 64 bits.
+fn are_value_widths(values: &[ValueType]) -> bool
+    ensures { result ≡ list_all widths.is_value_width (map view_value values.now) }
+{
+    'each: for value in values {
+        if !is_value_width(value) {
+            return false;
+        }
+    }
+    true
+}
+
+/// Whether a result is void, a pointer, or an integer of 1 to 64 bits.
+fn is_result_width(result_type: Option<ValueType>) -> bool
+    ensures { result ≡ widths.is_result_width (option_map view_value result_type) }
+{
+    match result_type {
+        Some(value) => is_value_width(&value),
+        None => true,
+    }
+}
+
 impl<'k> FunctionRow<'k> {
     /// Whether it has a body and so many parameters.
     pub fn has_body_with(&self, parameters: usize) -> bool
@@ -89,5 +129,12 @@ impl<'k> FunctionRow<'k> {
         ensures { result ≡ definition.is_void_declared (Some (function_in (see_function self.now))) }
     {
         !self.defined && self.result.is_none()
+    }
+
+    /// Whether the integers that it takes and gives have 1 to 64 bits.
+    pub fn has_widths(&self) -> bool
+        ensures { result ≡ widths.has_widths (function_in (see_function self.now)) }
+    {
+        are_value_widths(self.parameters.as_slice()) && is_result_width(self.result)
     }
 }

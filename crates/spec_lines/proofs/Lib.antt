@@ -1,5 +1,5 @@
 mod Prefixes
-mod Cutting
+pub mod Cutting
 mod Rows
 mod Heads
 mod Trees
@@ -7,6 +7,8 @@ mod Finding
 mod Results
 mod Texts
 mod Putting
+mod FieldTurns
+mod Fitting
 mod Least
 mod Arranged
 mod Exits

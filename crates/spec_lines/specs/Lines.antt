@@ -1,13 +1,14 @@
 -- The tests of a line, all at once.
-use Rattle.std.specs.Prelude.{ℕ, Bool, false, ◌||◌, if◌then◌else◌, Option, Some, None, List, [], slice_index_or}
+use Rattle.std.specs.Prelude.{ℕ, Bool, true, false, ◌||◌, if◌then◌else◌, Option, Some, None, is_some, List, [], slice_index_or}
 use Rattle.std.specs.List.{list_any}
 use Rattle.spec_ast.specs.declared.fault.SpecReason.{SpecReason}
 use Rattle.spec_ast.specs.declared.fault.SpecReason.TheVariants.{S5, S6, S7, S8, S9, S10, S11, S12, S13, S14, S15}
-use Rattle.spec_ast.specs.Raw.{Tree, Item}
+use Rattle.spec_ast.specs.Raw.{Tree, Item, sort_line, field_line, var_line}
 use Rattle.spec_ast.specs.Depth.{trees_on}
 use Rattle.spec_names.specs.Kernel.{Name, Kernel, function_place}
 use Rattle.spec_scope.specs.Scope.{Scope}
 use Rattle.spec_scope.specs.Tests.{Findings, somewhere, is_unknown, is_rebound, is_no_leaf, is_wide, is_read}
+use Rattle.spec_lines.specs.Sorts.{sort_for, key_for, field_sort_for}
 use Rattle.spec_lines.specs.Behind.{Here}
 use Rattle.spec_lines.specs.Faults.{Text, fits_line, is_unknown_line, is_second, is_s9, is_s10, is_s11, is_large_line, is_s13, is_s14, is_s15}
 
@@ -76,3 +77,10 @@ arranged None fits later = if fits then later else Some S7
 
 abbrev pub line_fault : Text → Here → Item → Option SpecReason
 line_fault t h item = arranged (early h item (found_on h.scope item)) (fits_line h item) (late t h item (found_on h.scope item))
+
+-- every sort that the line spells is within its limits
+abbrev pub sorts_fit : Here → Item → Bool
+sorts_fit h (sort_line x sort) = is_some (sort_for h.scope sort)
+sorts_fit h (field_line x keys sort) = is_some (field_sort_for h.scope keys sort)
+sorts_fit h (var_line x sort) = is_some (key_for h.scope sort)
+sorts_fit h _ = true

@@ -1,15 +1,19 @@
 -- What the code keeps of a specification that is being made means.
-use Rattle.std.specs.Prelude.{◌≡◌, Option, Some, option_map, List, map, Result, Ok, Err}
+use Rattle.std.specs.Prelude.{◌≡◌, Option, Some, None, option_map, List, map, Result, Ok, Err}
 use Rattle.spec_tree.specs.Plain as tree
 use Rattle.spec_tree.specs.View.{view_expr, view_field, view_named, view_transition, view_line}
 use Rattle.spec_tree.specs.declared.expr.Expr.{Expr}
 use Rattle.spec_scope.specs.declared.typed.TakeStop.{TakeStop}
 use Rattle.spec_take.specs.Answers.{Fails}
 use Rattle.spec_lines.specs.Whole as plain
+use Rattle.spec_lines.specs.declared.fore.FieldHead.{FieldHead}
 use Rattle.spec_lines.specs.declared.made.Made.{Made}
 
 abbrev pub view_values : List (Option Expr) → List (Option tree.Tree)
 view_values values = map (option_map view_expr) values
+
+abbrev pub no_value : FieldHead → Option tree.Tree
+no_value h = None
 
 abbrev pub view_made : Made → plain.Made
 view_made m =

@@ -74,6 +74,10 @@ with_head fields heads h = if is_some (place_in fields h.name) then heads else h
 pub record AreHeads (f : Fore) : Type 0 where
   pub heads : map seen_head f.heads.items ≡ map head_of f.scope.fields
 
+-- these are the lines and names of the fields, in their order
+abbrev pub AreHeadsOf : List Declared → List FieldHead → Type 0
+AreHeadsOf fields heads = map seen_head heads ≡ map head_of fields
+
 abbrev pub view_equation : Equation → equations.Equation
 view_equation q =
     record { variables = q.variables.now; owner = q.owner.now; field = q.field.now; arguments = map view_expr q.arguments.now; right = view_expr q.right.now }

@@ -4,10 +4,12 @@
 
 pub mod equation;
 pub mod faults;
+pub mod fields;
 pub mod findings;
 pub mod fore;
 pub mod function;
 pub mod here;
+pub mod judge;
 pub mod laws;
 pub mod made;
 pub mod passes;

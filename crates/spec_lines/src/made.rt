@@ -1,10 +1,11 @@
 //! What a line adds to a specification.
 
 ghost use Rattle.std.specs.Prelude.{◌≡◌, ◌++◌, ◌∷◌, [], Some, None, map, option_map, OnOk, IfOk};
-ghost use Rattle.spec_ast.specs.View.{view_expr as view_raw, view_expr_list as view_raws};
-ghost use Rattle.spec_tree.specs.View.{view_expr, view_expr_list, view_key, view_line, view_named, view_transition};
+ghost use Rattle.spec_ast.specs.View.{view_expr as view_raw, view_expr_list as view_raws, view_item};
+ghost use Rattle.spec_tree.specs.View.{view_expr, view_field, view_expr_list, view_key, view_line, view_named, view_transition};
 ghost use Rattle.spec_tree.specs.Plain as tree;
 ghost use Rattle.spec_kernel.specs.Seen.{view_value};
+ghost use Rattle.spec_scope.specs.declared.meaning.Kind.TheVariants.{Truth};
 ghost use Rattle.spec_scope.specs.Fields.{view_sort};
 ghost use Rattle.spec_scope.specs.Scope as scopes;
 ghost use Rattle.spec_scope.specs.Takes.{index_kind};
@@ -14,17 +15,20 @@ ghost use Rattle.spec_take.specs.Answers.{Gives};
 ghost use Rattle.spec_lines.specs.Behind as behind;
 ghost use Rattle.spec_lines.specs.Faults as faults;
 ghost use Rattle.spec_lines.specs.Whole as definition;
-ghost use Rattle.spec_lines.specs.View.{view_here, view_kind, view_head, view_equation};
+ghost use Rattle.spec_lines.specs.View.{view_here, view_kind, view_head, AreHeadsOf};
 ghost use Rattle.spec_lines.specs.MadeView.{view_made, view_values, Makes};
 
-use crate::equation::{Equation, equation_in, field_sort, trees_of};
+use crate::equation::field_sort;
 use crate::faults::is_new;
+use crate::fields::fields_from;
+use crate::fore::FieldHead;
 use crate::function::FunctionKind;
-use crate::here::{Head, Here, is_equivalence, is_handler};
+use crate::here::{Head, Here, is_handler};
 use crate::step::{let_kind, skips, types_of, width_of};
+use crate::values::values_of;
 use spec_ast::{Name, RawExpr, RawExprs, RawItem};
 use spec_kernel::ValueType;
-use spec_scope::{BoundNames, FieldSort, Kind, Scope, TakeStop};
+use spec_scope::{BoundNames, FieldSort, FieldTable, Kind, Scope, TakeStop};
 use spec_take::{OwnKind, indices, own, take};
 use spec_tree::{
     Body, Expr, ExprList, Field, Line, LineList, Named, SizeList, Sort, Transition, Write,
@@ -113,7 +117,7 @@ impl Made {
 }
 
 /// The kind of the function that goes on.
-fn kind_of<'s>(head: &Option<Head<'s>>) -> Option<FunctionKind<'s>>
+pub fn kind_of<'s>(head: &Option<Head<'s>>) -> Option<FunctionKind<'s>>
     ensures { option_map view_kind result ≡ behind.kind_of (option_map view_head head.now) }
 {
     match head {
@@ -269,7 +273,6 @@ fn result_made(
 }
 
 /// What the result of a transition stands for.
-
 fn taken_result(alloc: Global, here: &Here<'_>, r: &RawExpr) -> Result<Expr, TakeStop>
     ensures { Gives view_expr result (taking.take (view_scope here.now.scope) [] (faults.result_kind (view_scope here.now.scope) here.now.result (view_raw r.now)) (view_raw r.now)) }
 {
@@ -426,5 +429,131 @@ impl Made {
         let r = result_made(alloc, here, r)?;
         self.add_end(alloc, here, state, valid, r)?;
         Ok(())
+    }
+}
+
+/// The fields of the text, each with its value; none where one has no sort or no value.
+fn known_fields(
+    alloc: Global,
+    table: &FieldTable<'_>,
+    heads: &[FieldHead<'_>],
+    values: Vec<Option<Expr>>,
+) -> Result<Option<Vec<Field>>, AllocError>
+    requires { AreHeadsOf table.now heads.now }
+    ensures { IfOk result (λ o. option_map (λ v. map view_field v.items) o ≡ definition.fields_from [] table.now (view_values values.items)) }
+{
+    match fields_from(alloc, table, heads, values) {
+        Ok(fields) => Ok(Some(fields)),
+        Err(TakeStop::Unfit) => Ok(None),
+        Err(TakeStop::Memory) => Err(AllocError),
+    }
+}
+
+impl Made {
+    /// Behind the return line of the equivalence function.
+    fn at_equivalence(
+        &mut self,
+        alloc: Global,
+        scope: &Scope<'_>,
+        heads: &[FieldHead<'_>],
+        e: &RawExpr,
+    ) -> Result<(), TakeStop>
+        requires { AreHeadsOf scope.now.fields heads.now }
+        ensures { Makes result (view_made self.new) (taking.one (definition.equivalence_made (view_scope scope.now) (view_made self.old)) (faults.values_of (view_scope scope.now) (view_raw e.now))) }
+    {
+        let values = values_of(alloc, scope, heads, e)?;
+        self.fields = known_fields(alloc, &scope.fields, heads, values)?;
+        self.equation_locals = mem::replace(&mut self.locals, Vec::new(alloc));
+        Ok(())
+    }
+
+    /// Behind the return line of an invariant.
+    fn at_invariant(
+        &mut self,
+        alloc: Global,
+        scope: &Scope<'_>,
+        name: &[u8],
+        e: &RawExpr,
+    ) -> Result<(), TakeStop>
+        ensures { Makes result (view_made self.new) (taking.one (definition.with_invariant name.now (view_made self.old)) (taking.take (view_scope scope.now) [] Truth (view_raw e.now))) }
+    {
+        let y = take_alone(alloc, scope, Kind::Truth, e)?;
+        self.add_invariant(alloc, name, y)?;
+        Ok(())
+    }
+
+    /// Behind the return line of a property.
+    fn at_property(
+        &mut self,
+        alloc: Global,
+        scope: &Scope<'_>,
+        name: &[u8],
+        e: &RawExpr,
+    ) -> Result<(), TakeStop>
+        ensures { Makes result (view_made self.new) (taking.one (definition.with_property name.now (view_made self.old)) (taking.take (view_scope scope.now) [] Truth (view_raw e.now))) }
+    {
+        let y = take_alone(alloc, scope, Kind::Truth, e)?;
+        self.add_property(alloc, name, y)?;
+        Ok(())
+    }
+
+    /// Behind a return line of no such function, which adds nothing.
+    fn at_truth(&mut self, alloc: Global, scope: &Scope<'_>, e: &RawExpr) -> Result<(), TakeStop>
+        ensures { Makes result (view_made self.new) (taking.one (λ y. view_made self.old) (taking.take (view_scope scope.now) [] Truth (view_raw e.now))) }
+    {
+        let y = take_alone(alloc, scope, Kind::Truth, e)?;
+        drop(y);
+        Ok(())
+    }
+
+    /// Behind a return line.
+    fn at_return(
+        &mut self,
+        alloc: Global,
+        here: &Here<'_>,
+        heads: &[FieldHead<'_>],
+        e: &RawExpr,
+    ) -> Result<(), TakeStop>
+        requires { AreHeadsOf here.now.scope.fields heads.now }
+        ensures { Makes result (view_made self.new) (definition.return_made (behind.kind_of (option_map view_head here.now.head)) (view_scope here.now.scope) (view_made self.old) (view_raw e.now)) }
+    {
+        match kind_of(&here.head) {
+            Some(FunctionKind::Equivalence) => self.at_equivalence(alloc, &here.scope, heads, e),
+            Some(FunctionKind::Invariant(name)) => self.at_invariant(alloc, &here.scope, name, e),
+            Some(FunctionKind::Property(name)) => self.at_property(alloc, &here.scope, name, e),
+            Some(FunctionKind::Handler) | None => self.at_truth(alloc, &here.scope, e),
+        }
+    }
+
+    /// Before the first line of a function.
+    fn at_def(&mut self, alloc: Global)
+        ensures { view_made self.new ≡ record (view_made self.old) { locals = []; lines = [] } }
+    {
+        self.locals = Vec::new(alloc);
+        self.lines = Vec::new(alloc);
+    }
+
+    /// Adds what a line adds. `heads` are the lines and names of the fields of the text.
+    pub fn add(
+        &mut self,
+        alloc: Global,
+        here: &Here<'_>,
+        heads: &[FieldHead<'_>],
+        item: &RawItem,
+    ) -> Result<(), TakeStop>
+        requires { AreHeadsOf here.now.scope.fields heads.now }
+        ensures { Makes result (view_made self.new) (definition.made_behind (view_here here.now) (view_made self.old) (view_item item.now)) }
+    {
+        match item {
+            RawItem::Def(..) => {
+                self.at_def(alloc);
+                Ok(())
+            }
+            RawItem::Let(_, e) => self.at_let(alloc, here, e),
+            RawItem::Write(_, field, at, e) => self.at_write(alloc, here, field.as_bytes(), at, e),
+            RawItem::Return(e) => self.at_return(alloc, here, heads, e),
+            RawItem::End(e, state, r) => self.at_end(alloc, here, e, state.as_bytes(), r),
+            _ => Ok(()),
+        }
     }
 }

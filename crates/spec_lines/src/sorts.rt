@@ -22,7 +22,7 @@ fn sort_meant(meaning: Option<Meaning>) -> Option<Sort>
 }
 
 /// Whether an index sort is within its limits.
-fn is_index(width: u64, size: u64) -> bool
+pub fn is_index(width: u64, size: u64) -> bool
     ensures { result ≡ definition.is_index width size }
 {
     if width < 1 || width > 64 || size < 1 || size > 65536 {
@@ -147,7 +147,7 @@ pub fn cut(count: u64) -> u64
 }
 
 /// The size of a key.
-fn size_of(key: &Sort) -> u32
+pub fn size_of(key: &Sort) -> u32
     ensures { result ≡ (view_key key.now).size }
 {
     match key.size {
@@ -157,7 +157,7 @@ fn size_of(key: &Sort) -> u32
 }
 
 /// How many index tuples keys have, to one more than the limit.
-fn tuples_of(keys: &[Sort]) -> u64
+pub fn tuples_of(keys: &[Sort]) -> u64
     ensures value { result ≡ definition.tuples_of (map view_key keys.now) }
     ensures small { result ≤ 4194305 }
 {

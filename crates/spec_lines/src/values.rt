@@ -1,6 +1,6 @@
 //! The values that the equivalence function gives to fields.
 
-ghost use Rattle.std.specs.Prelude.{◌≡◌, [], map, option_map, OnOk};
+ghost use Rattle.std.specs.Prelude.{◌≡◌, ◌∷◌, [], map, option_map, IfOk, OnOk};
 ghost use Rattle.spec_ast.specs.View.{view_expr as view_raw};
 ghost use Rattle.spec_tree.specs.View.{view_expr};
 ghost use Rattle.spec_scope.specs.declared.meaning.Kind.TheVariants.{Number};
@@ -11,10 +11,11 @@ ghost use Rattle.spec_scope.specs.View.{view_scope};
 ghost use Rattle.spec_take.specs.Answers.{Gives};
 ghost use Rattle.spec_lines.specs.Equations as equations;
 ghost use Rattle.spec_lines.specs.Faults as definition;
-ghost use Rattle.spec_lines.specs.View.{view_equation};
-ghost use Rattle.spec_lines.specs.MadeView.{view_values, Makes};
+ghost use Rattle.spec_lines.specs.View.{view_equation, AreHeadsOf};
+ghost use Rattle.spec_lines.specs.MadeView.{view_values, no_value, Makes};
 
-use crate::equation::{Equation, equation_in, field_sort};
+use crate::equation::{Equation, equation_in, field_sort, trees_of};
+use crate::fore::FieldHead;
 use crate::made::take_alone;
 use spec_ast::RawExpr;
 use spec_scope::{BoundNames, FieldSort, Kind, Scope, TakeStop};
@@ -119,4 +120,58 @@ fn put_all(
         put_conjunct(alloc, scope, values, e)?;
     }
     Ok(())
+}
+
+/// Puts the values that the only conjunct gives.
+fn put_only(
+    alloc: Global,
+    scope: &Scope<'_>,
+    values: &mut Vec<Option<Expr>>,
+    e: &RawExpr,
+) -> Result<(), TakeStop>
+    ensures { Makes result (view_values values.new.items) (definition.values_from (view_scope scope.now) (view_values values.old.items) (view_raw e.now ∷ [])) }
+{
+    put_conjunct(alloc, scope, values, e)
+}
+
+/// Puts the values that the conjuncts of an expression give.
+fn put_conjuncts(
+    alloc: Global,
+    scope: &Scope<'_>,
+    values: &mut Vec<Option<Expr>>,
+    e: &RawExpr,
+) -> Result<(), TakeStop>
+    ensures { Makes result (view_values values.new.items) (definition.values_from (view_scope scope.now) (view_values values.old.items) (equations.conjuncts (view_raw e.now))) }
+{
+    match e {
+        RawExpr::All(es) => put_all(alloc, scope, values, trees_of(es)),
+        _ => put_only(alloc, scope, values, e),
+    }
+}
+
+/// No value for each field.
+fn no_values(alloc: Global, heads: &[FieldHead<'_>]) -> Result<Vec<Option<Expr>>, AllocError>
+    ensures { IfOk result (λ v. view_values v.items ≡ map no_value heads.now) }
+{
+    let mut values = Vec::new(alloc);
+    'each: for _ in heads {
+        values.push(None)?;
+    }
+    Ok(values)
+}
+
+/// The values that the equivalence function gives to the fields, by their places.
+#[tactic(auto, using(crate::proofs::FieldTurns::none_for_each))]
+pub fn values_of(
+    alloc: Global,
+    scope: &Scope<'_>,
+    heads: &[FieldHead<'_>],
+    e: &RawExpr,
+) -> Result<Vec<Option<Expr>>, TakeStop>
+    requires { AreHeadsOf scope.now.fields heads.now }
+    ensures { Gives (λ v. view_values v.items) result (definition.values_of (view_scope scope.now) (view_raw e.now)) }
+{
+    let mut values = no_values(alloc, heads)?;
+    put_conjuncts(alloc, scope, &mut values, e)?;
+    Ok(values)
 }
