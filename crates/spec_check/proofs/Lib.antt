@@ -1,0 +1,4 @@
+mod Walking
+mod Limiting
+mod Ending
+mod Sizing

@@ -1,0 +1,9 @@
+pub mod Small
+pub mod Found
+pub mod Bound
+pub mod Owned
+pub mod Sorted
+pub mod TakenLaws
+pub mod Listed
+pub mod Alike
+pub mod Equated

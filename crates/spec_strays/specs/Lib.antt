@@ -1,0 +1,4 @@
+pub mod Reached
+pub mod Search
+pub mod Callers
+pub mod Places
