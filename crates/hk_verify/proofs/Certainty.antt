@@ -4,20 +4,19 @@ use Rattle.std.proofs.Common.{ℕ, zero, suc, ◌≡◌, inl, inr, List, [], ◌
 use Rattle.std.specs.List.{AllZip}
 use Rattle.std.proofs.lemmas.List.{append_assoc, append-nil}
 use Rattle.hk_io.specs.Held.{Files, held_under}
-use Rattle.ir_thin.specs.declared.tree.Kernel.{Kernel}
-use Rattle.spec_thin.specs.declared.tree.Spec.{Spec}
-use Rattle.spec_thin.specs.declared.tree.Transition.{Transition}
-use Rattle.spec_text.specs.Spelling.{IsSpecText}
-use Rattle.hk_report.specs.declared.verdict.Verdict.{Verdict}
-use Rattle.hk_report.specs.declared.verdict.Verdict.TheVariants.{Accepted, Rejected}
-use Rattle.hk_decide.specs.Right.{IsRight}
+use Rattle.ir_ast.specs.Program.{ModuleView}
+use Rattle.ir_read.specs.Spelling.{IsModuleText}
+use Rattle.ir_layout.specs.Layouts.{LayoutView}
+use Rattle.spec_tree.specs.Plain.{Spec, Transition}
+use Rattle.hk_verdict.specs.declared.verdict.Verdict.{Verdict}
+use Rattle.hk_verdict.specs.declared.verdict.Verdict.TheVariants.{Accepted, Rejected}
 use Rattle.hk_verify.specs.declared.answer.Answer.{Answer}
 use Rattle.hk_verify.specs.declared.answer.TopFault.{TopFault}
 use Rattle.hk_verify.specs.declared.answer.TopFault.TheVariants.{Usage, Read, Long, Kernel as OfKernel, Spec as OfSpec, Cnf as OfCnf, Call as OfCall, Wide, Memory, Write}
-use Rattle.hk_verify.specs.Kernels.{IsKernelText}
+use Rattle.hk_verify.specs.Specifications.{IsSpecText}
 use Rattle.hk_verify.specs.Words.{IsVerify, HasNoForm}
 use Rattle.hk_verify.specs.Inputs.{Asked, ShelfView, IsLoaded, AreRead, asked, kernel_limit, spec_limit}
-use Rattle.hk_verify.specs.Verdicts.{AreCut}
+use Rattle.hk_verify.specs.Verdicts.{AreCut, IsRightFor}
 use Rattle.hk_verify.specs.Answers.{SinkView, Means, ReportsWith}
 use Rattle.hk_verify.specs.Headline.{IsHandler, AcceptsCorrect, RejectsRefuted}
 
@@ -47,30 +46,30 @@ nothing_there [] h x empty there = cc
 nothing_there (a ∷ xs) h x empty there = cc
 
 -- Verdicts that were reported are right.
-of_cut : (kernel : Kernel) (spec : Spec) (verdicts : List Verdict) (shown shown' : Option (List ℕ)) (h : ℕ) (t : Transition) (v : Verdict)
-    → AreCut kernel spec verdicts shown shown' → slice_get spec.transitions h ≡ Some t → slice_get verdicts h ≡ Some v → IsRight kernel spec t v
-of_cut kernel spec verdicts shown shown' h t v cut there here =
+of_cut : (m : ModuleView) (spec : Spec) (verdicts : List Verdict) (shown shown' : Option (List ℕ)) (h : ℕ) (t : Transition) (v : Verdict)
+    → AreCut m spec verdicts shown shown' → slice_get spec.transitions h ≡ Some t → slice_get verdicts h ≡ Some v → IsRightFor m spec t v
+of_cut m spec verdicts shown shown' h t v cut there here =
     let parts : (cut.before ++ cut.failed ∷ []) ++ cut.behind ≡ spec.transitions = append_assoc cut.before (cut.failed ∷ []) cut.behind ∙ sym cut.handlers in
-    at_place (IsRight kernel spec) (cut.before ++ cut.failed ∷ []) cut.behind (cut.front ++ cut.last ∷ []) h t v
-    (all_and_last (IsRight kernel spec) cut.before cut.front cut.failed cut.last cut.right cut.right_last)
+    at_place (IsRightFor m spec) (cut.before ++ cut.failed ∷ []) cut.behind (cut.front ++ cut.last ∷ []) h t v
+    (all_and_last (IsRightFor m spec) cut.before cut.front cut.failed cut.last cut.right cut.right_last)
     (subst (λ ts. slice_get ts h ≡ Some t) (sym parts) there)
     (subst (λ vs. slice_get vs h ≡ Some v) cut.parts here)
 
-of_report : (sink : SinkView) (kernel : Kernel) (spec : Spec) (answer : Answer) (fault : Option TopFault) (h : ℕ) (t : Transition) (v : Verdict)
-    → ReportsWith sink kernel spec answer fault → slice_get spec.transitions h ≡ Some t → slice_get answer.verdicts h ≡ Some v → IsRight kernel spec t v
-of_report sink kernel spec answer None h t v whole there here =
-    at_place (IsRight kernel spec) spec.transitions [] answer.verdicts h t v whole.right (subst (λ ts. slice_get ts h ≡ Some t) (sym (append-nil spec.transitions)) there) here
-of_report sink kernel spec answer (Some Write) h t v cut there here =
-    elim cut.shown as (λ _. IsRight kernel spec t v) [ inl opening ↦ absurd (nothing_there answer.verdicts h v opening.none here) | inr last ↦ of_cut kernel spec answer.verdicts _ _ h t v last there here ]
-of_report sink kernel spec answer (Some Usage) h t v reports there here = absurd reports
-of_report sink kernel spec answer (Some (Read w)) h t v reports there here = absurd reports
-of_report sink kernel spec answer (Some (Long w)) h t v reports there here = absurd reports
-of_report sink kernel spec answer (Some (OfKernel f)) h t v reports there here = absurd reports
-of_report sink kernel spec answer (Some (OfSpec f)) h t v reports there here = absurd reports
-of_report sink kernel spec answer (Some (OfCnf f)) h t v reports there here = absurd reports
-of_report sink kernel spec answer (Some (OfCall f)) h t v reports there here = absurd reports
-of_report sink kernel spec answer (Some (Wide w)) h t v reports there here = absurd reports
-of_report sink kernel spec answer (Some Memory) h t v reports there here = absurd reports
+of_report : (sink : SinkView) (m : ModuleView) (spec : Spec) (answer : Answer) (fault : Option TopFault) (h : ℕ) (t : Transition) (v : Verdict)
+    → ReportsWith sink m spec answer fault → slice_get spec.transitions h ≡ Some t → slice_get answer.verdicts h ≡ Some v → IsRightFor m spec t v
+of_report sink m spec answer None h t v whole there here =
+    at_place (IsRightFor m spec) spec.transitions [] answer.verdicts h t v whole.right (subst (λ ts. slice_get ts h ≡ Some t) (sym (append-nil spec.transitions)) there) here
+of_report sink m spec answer (Some Write) h t v cut there here =
+    elim cut.shown as (λ _. IsRightFor m spec t v) [ inl opening ↦ absurd (nothing_there answer.verdicts h v opening.none here) | inr last ↦ of_cut m spec answer.verdicts _ _ h t v last there here ]
+of_report sink m spec answer (Some Usage) h t v reports there here = absurd reports
+of_report sink m spec answer (Some (Read w)) h t v reports there here = absurd reports
+of_report sink m spec answer (Some (Long w)) h t v reports there here = absurd reports
+of_report sink m spec answer (Some (OfKernel f)) h t v reports there here = absurd reports
+of_report sink m spec answer (Some (OfSpec f)) h t v reports there here = absurd reports
+of_report sink m spec answer (Some (OfCnf f)) h t v reports there here = absurd reports
+of_report sink m spec answer (Some (OfCall f)) h t v reports there here = absurd reports
+of_report sink m spec answer (Some (Wide w)) h t v reports there here = absurd reports
+of_report sink m spec answer (Some Memory) h t v reports there here = absurd reports
 
 -- The text that was loaded is the one that is held.
 pub same_text : (held : Option Files) (file : Asked) (text loaded : List ℕ) → IsLoaded held file loaded → held_under held file.name ≡ Some text → loaded ≡ text
@@ -98,49 +97,48 @@ unfolding third
 same_third words a b c d e f one other = ap third (sym one ∙ other)
 
 -- The kernel and the specification that were read are those that the held texts spell.
-of_read : (held : Option Files) (words : List (List ℕ)) (kernel_name spec_name : List ℕ) (kernel other : Kernel) (spec other_spec : Spec) (h : ℕ) (t : Transition) (v : Verdict)
-    → IsVerify words kernel_name spec_name → AreRead held kernel_name spec_name other other_spec → IsHandler held words kernel spec h t
-    → (slice_get other_spec.transitions h ≡ Some t → IsRight other other_spec t v) → IsRight kernel spec t v
-of_read held words kernel_name spec_name kernel other spec other_spec h t v form read handler right =
+of_read : (held : Option Files) (words : List (List ℕ)) (kernel_name spec_name : List ℕ) (m other : ModuleView) (layout : LayoutView) (spec other_spec : Spec) (h : ℕ) (t : Transition) (v : Verdict)
+    → IsVerify words kernel_name spec_name → AreRead held kernel_name spec_name other other_spec → IsHandler held words m layout spec h t
+    → (slice_get other_spec.transitions h ≡ Some t → IsRightFor other other_spec t v) → IsRightFor m spec t v
+of_read held words kernel_name spec_name m other layout spec other_spec h t v form read handler right =
     let same_k : handler.kernel_name ≡ kernel_name = same_second words _ _ _ _ _ _ handler.form form in
     let same_s : handler.spec_name ≡ spec_name = same_third words _ _ _ _ _ _ handler.form form in
     let kernel_text : read.kernel_text ≡ handler.kernel_text = same_text held (asked 1 kernel_name kernel_limit) handler.kernel_text read.kernel_text read.loaded.0
     (subst (λ n. held_under held n ≡ Some handler.kernel_text) same_k handler.kernel_held) in
     let spec_text : read.spec_text ≡ handler.spec_text = same_text held (asked 2 spec_name spec_limit) handler.spec_text read.spec_text read.loaded.1.0
     (subst (λ n. held_under held n ≡ Some handler.spec_text) same_s handler.spec_held) in
-    let is_kernel : kernel ≡ other = read.the_kernel.only kernel (subst (λ text. IsKernelText text kernel) (sym kernel_text) handler.kernel_spelled) in
+    let is_kernel : m ≡ other = read.the_kernel.only m (subst (λ text. IsModuleText text m) (sym kernel_text) handler.kernel_spelled.spelled) in
     let is_spec : spec ≡ other_spec = read.the_spec.only spec (subst (λ k. IsSpecText k read.spec_text spec) is_kernel
-    (subst (λ text. IsSpecText kernel text spec) (sym spec_text) handler.spec_spelled)) in
+    (subst (λ text. IsSpecText m text spec) (sym spec_text) handler.spec_spelled)) in
     let there = subst (λ s. slice_get s.transitions h ≡ Some t) is_spec handler.there in
-    subst (λ k. IsRight k spec t v) (sym is_kernel) (subst (λ s. IsRight other s t v) (sym is_spec) (right there))
+    subst (λ k. IsRightFor k spec t v) (sym is_kernel) (subst (λ s. IsRightFor other s t v) (sym is_spec) (right there))
 
 -- The verdict at a handler's place is right.
-right_at : (shelf : ShelfView) (sink : SinkView) (words : List (List ℕ)) (kernel_name spec_name : List ℕ) (answer : Answer) (kernel : Kernel) (spec : Spec) (h : ℕ) (t : Transition) (v : Verdict)
-    → IsVerify words kernel_name spec_name → Means shelf sink words kernel_name spec_name answer → IsHandler shelf.held words kernel spec h t
-    → slice_get answer.verdicts h ≡ Some v → IsRight kernel spec t v
-right_at shelf sink words kernel_name spec_name answer kernel spec h t v form (inl reported) handler here =
-    of_read shelf.held words kernel_name spec_name kernel reported.kernel spec reported.spec h t v form reported.read handler
-    (λ there. of_report sink reported.kernel reported.spec answer answer.fault h t v reported.reports there here)
-right_at shelf sink words kernel_name spec_name answer kernel spec h t v form (inr ended) handler here =
+right_at : (shelf : ShelfView) (sink : SinkView) (words : List (List ℕ)) (kernel_name spec_name : List ℕ) (answer : Answer) (m : ModuleView) (layout : LayoutView) (spec : Spec) (h : ℕ) (t : Transition) (v : Verdict)
+    → IsVerify words kernel_name spec_name → Means shelf sink words kernel_name spec_name answer → IsHandler shelf.held words m layout spec h t
+    → slice_get answer.verdicts h ≡ Some v → IsRightFor m spec t v
+right_at shelf sink words kernel_name spec_name answer m layout spec h t v form (inl reported) handler here =
+    of_read shelf.held words kernel_name spec_name m reported.module_ layout spec reported.spec h t v form reported.read handler
+    (λ there. of_report sink reported.module_ reported.spec answer answer.fault h t v reported.reports there here)
+right_at shelf sink words kernel_name spec_name answer m layout spec h t v form (inr ended) handler here =
     absurd (nothing_there answer.verdicts h v ended.refused.verdicts here)
 
 pub accepts : (shelf : ShelfView) (sink : SinkView) (words : List (List ℕ)) (kernel_name spec_name : List ℕ) (answer : Answer)
     → IsVerify words kernel_name spec_name → Means shelf sink words kernel_name spec_name answer → AcceptsCorrect shelf.held words answer
-accepts shelf sink words kernel_name spec_name answer form means kernel spec h t handler here =
-    right_at shelf sink words kernel_name spec_name answer kernel spec h t Accepted form means handler here
+accepts shelf sink words kernel_name spec_name answer form means m layout spec h t handler here =
+    right_at shelf sink words kernel_name spec_name answer m layout spec h t Accepted form means handler here layout handler.laid
 
 pub rejects : (shelf : ShelfView) (sink : SinkView) (words : List (List ℕ)) (kernel_name spec_name : List ℕ) (answer : Answer)
     → IsVerify words kernel_name spec_name → Means shelf sink words kernel_name spec_name answer → RejectsRefuted shelf.held words answer
-rejects shelf sink words kernel_name spec_name answer form means kernel spec h t o c handler here =
-    let refuted = right_at shelf sink words kernel_name spec_name answer kernel spec h t (Rejected o c) form means handler here in
-    record { owed = (refuted.place, refuted.owed); case_of = refuted.case_of; violates = refuted.violates }
+rejects shelf sink words kernel_name spec_name answer form means m layout spec h t o c handler here =
+    right_at shelf sink words kernel_name spec_name answer m layout spec h t (Rejected o c) form means handler here layout handler.laid
 
 -- Words without a form have no handler.
 pub accepts_none : (held : Option Files) (words : List (List ℕ)) (answer : Answer) → HasNoForm words → AcceptsCorrect held words answer
-accepts_none held words answer none kernel spec h t handler here = absurd (none.no_verify handler.kernel_name handler.spec_name handler.form)
+accepts_none held words answer none m layout spec h t handler here = absurd (none.no_verify handler.kernel_name handler.spec_name handler.form)
 
 pub rejects_none : (held : Option Files) (words : List (List ℕ)) (answer : Answer) → HasNoForm words → RejectsRefuted held words answer
-rejects_none held words answer none kernel spec h t o c handler here = absurd (none.no_verify handler.kernel_name handler.spec_name handler.form)
+rejects_none held words answer none m layout spec h t o c handler here = absurd (none.no_verify handler.kernel_name handler.spec_name handler.form)
 
 -- What an answer means for the names of the words it means for any names that the words give.
 pub means_for : (shelf : ShelfView) (sink : SinkView) (words : List (List ℕ)) (k s k' s' : List ℕ) (answer : Answer)

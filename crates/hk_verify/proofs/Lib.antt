@@ -1,8 +1,10 @@
 mod Certainty
 mod Forms
-mod KernelReading
 mod Loading
 mod NumberWords
 mod Pushes
+mod Reported
+mod Shapes
+mod SpecReading
 mod Whole
 mod WholeReading

@@ -1,16 +1,18 @@
 -- One more verdict at the end of the list.
 
-use Rattle.std.proofs.Common.{ℕ, ◌+◌, ◌<◌, ◌≤◌, ◌≡◌, List, [], ◌∷◌, ◌++◌, Option, None, Some, length, take, drop, slice_index_or, refl, ap, sym, ◌∙◌, subst}
+use Rattle.std.proofs.Common.{ℕ, ◌+◌, ◌<◌, ◌≡◌, List, [], ◌∷◌, ◌++◌, Option, None, Some, length, map, take, drop, slice_get, slice_index_or, refl, ap, sym, ◌∙◌, subst, arith}
+use Rattle.std.specs.Prelude.{option_map}
 use Rattle.std.specs.List.{AllZip, zip, flat_map}
-use Rattle.std.proofs.lemmas.List.{take_more, take_all, take-append-drop, append_assoc, append-nil}
+use Rattle.std.proofs.lemmas.List.{take_more, take-append-drop, append_assoc, append-nil, length-map, get_or-map}
+use Rattle.std.proofs.lemmas.Option.{slice_get-map, slice_get_read}
 use Rattle.hk_io.specs.Shown.{shown_with, ShowsPrefix}
-use Rattle.ir_thin.specs.declared.tree.Kernel.{Kernel}
-use Rattle.spec_thin.specs.declared.tree.Spec.{Spec}
-use Rattle.spec_thin.specs.declared.tree.Transition.{Transition}
-use Rattle.hk_report.specs.declared.verdict.Verdict.{Verdict}
-use Rattle.hk_report.specs.Report.{verdict_text, verdicts_text}
-use Rattle.hk_decide.specs.Right.{IsRight}
-use Rattle.hk_verify.specs.Verdicts.{Adds, AddsCut, AreRight, AreShown, AreCut}
+use Rattle.ir_ast.specs.Program.{ModuleView}
+use Rattle.spec_tree.specs.Plain.{Spec, Transition}
+use Rattle.spec_tree.specs.View.{view_transition}
+use Rattle.spec_tree.specs.declared.spec.Transition.{Transition as Handler}
+use Rattle.hk_verdict.specs.declared.verdict.Verdict.{Verdict}
+use Rattle.hk_verdict.specs.Report.{verdict_text, verdicts_text}
+use Rattle.hk_verify.specs.Verdicts.{Adds, AddsCut, AreRight, AreCut, IsRightFor}
 
 -- What is shown with one text and then another is shown with both.
 pub shown_with-append : (s : Option (List ℕ)) (a b : List ℕ) → shown_with (shown_with s a) b ≡ shown_with s (a ++ b)
@@ -43,30 +45,30 @@ texts-snoc R f [] after (b ∷ ys) x y all = absurd all
 texts-snoc R f (a ∷ before) after [] x y all = absurd all
 
 -- The verdicts of the handlers so far are right, and their lines are shown.
-pub record SoFar (kernel : Kernel) (spec : Spec) (before : List Transition) (verdicts : List Verdict) (shown shown' : Option (List ℕ)) : Type 0 where
-  pub right : AreRight kernel spec before verdicts
-  pub says : shown' ≡ shown_with shown (verdicts_text kernel spec verdicts)
+pub record SoFar (m : ModuleView) (spec : Spec) (before : List Transition) (verdicts : List Verdict) (shown shown' : Option (List ℕ)) : Type 0 where
+  pub right : AreRight m spec before verdicts
+  pub says : shown' ≡ shown_with shown (verdicts_text m spec verdicts)
 
 -- One more handler.
-pub goes_on : (kernel : Kernel) (spec : Spec) (before after : List Transition) (t : Transition) (old new : List Verdict) (shown now next : Option (List ℕ))
-    → spec.transitions ≡ before ++ t ∷ after → SoFar kernel spec before old shown now → Adds kernel spec t old new now next
-    → SoFar kernel spec (before ++ t ∷ []) new shown next
-goes_on kernel spec before after t old new shown now next parts so_far adds =
-    let f : Transition × Verdict → List ℕ = λ v. verdict_text kernel spec v.0 v.1 in
+pub goes_on : (m : ModuleView) (spec : Spec) (before after : List Transition) (t : Transition) (old new : List Verdict) (shown now next : Option (List ℕ))
+    → spec.transitions ≡ before ++ t ∷ after → SoFar m spec before old shown now → Adds m spec t old new now next
+    → SoFar m spec (before ++ t ∷ []) new shown next
+goes_on m spec before after t old new shown now next parts so_far adds =
+    let f : Transition × Verdict → List ℕ = λ v. verdict_text m spec v.0 v.1 in
     let more : flat_map f (zip spec.transitions (old ++ adds.verdict ∷ [])) ≡ flat_map f (zip spec.transitions old) ++ f (t, adds.verdict) =
     subst (λ ts. flat_map f (zip ts (old ++ adds.verdict ∷ [])) ≡ flat_map f (zip ts old) ++ f (t, adds.verdict)) (sym parts)
-    (texts-snoc (IsRight kernel spec) f before after old t adds.verdict so_far.right) in
+    (texts-snoc (IsRightFor m spec) f before after old t adds.verdict so_far.right) in
     record {
-      right = subst (AreRight kernel spec (before ++ t ∷ [])) (sym adds.added) (AllZip-snoc (IsRight kernel spec) before old t adds.verdict so_far.right adds.right);
-      says = adds.says ∙ ap (λ s. shown_with s (verdict_text kernel spec t adds.verdict)) so_far.says ∙ shown_with-append shown _ _
-          ∙ ap (shown_with shown) (sym more) ∙ ap (λ vs. shown_with shown (verdicts_text kernel spec vs)) (sym adds.added);
+      right = subst (AreRight m spec (before ++ t ∷ [])) (sym adds.added) (AllZip-snoc (IsRightFor m spec) before old t adds.verdict so_far.right adds.right);
+      says = adds.says ∙ ap (λ s. shown_with s (verdict_text m spec t adds.verdict)) so_far.says ∙ shown_with-append shown _ _
+          ∙ ap (shown_with shown) (sym more) ∙ ap (λ vs. shown_with shown (verdicts_text m spec vs)) (sym adds.added);
     }
 
 -- The lines of one more handler are cut.
-pub is_cut : (kernel : Kernel) (spec : Spec) (before after : List Transition) (t : Transition) (old new : List Verdict) (shown now next : Option (List ℕ))
-    → spec.transitions ≡ before ++ t ∷ after → SoFar kernel spec before old shown now → AddsCut kernel spec t old new now next
-    → AreCut kernel spec new shown next
-is_cut kernel spec before after t old new shown now next parts so_far adds = record {
+pub is_cut : (m : ModuleView) (spec : Spec) (before after : List Transition) (t : Transition) (old new : List Verdict) (shown now next : Option (List ℕ))
+    → spec.transitions ≡ before ++ t ∷ after → SoFar m spec before old shown now → AddsCut m spec t old new now next
+    → AreCut m spec new shown next
+is_cut m spec before after t old new shown now next parts so_far adds = record {
   before = before;
   failed = t;
   behind = after;
@@ -76,7 +78,7 @@ is_cut kernel spec before after t old new shown now next parts so_far adds = rec
   parts = adds.added;
   right = so_far.right;
   right_last = adds.right;
-  cut = subst (λ s. ShowsPrefix s next (verdict_text kernel spec t adds.verdict)) so_far.says adds.cut;
+  cut = subst (λ s. ShowsPrefix s next (verdict_text m spec t adds.verdict)) so_far.says adds.cut;
 }
 
 -- A list is what stands before a place, what stands there, and what stands behind.
@@ -84,33 +86,44 @@ parts_at : {A : Type 0} (xs : List A) (i : ℕ) (d : A) → i < length xs → xs
 parts_at xs i d within =
     sym (take-append-drop (i + 1) xs) ∙ ap (λ front. front ++ drop (i + 1) xs) (take_more xs i d within) ∙ append_assoc (take i xs) _ _
 
--- One more handler, by its place in the list.
-pub goes_on_at : (kernel : Kernel) (spec : Spec) (ts : List Transition) (i : ℕ) (t : Transition) (old new : List Verdict) (shown now next : Option (List ℕ))
-    → ts ≡ spec.transitions → i < length ts → t ≡ slice_index_or ts i t → SoFar kernel spec (take i ts) old shown now → Adds kernel spec t old new now next
-    → SoFar kernel spec (take (i + 1) ts) new shown next
-goes_on_at kernel spec ts i t old new shown now next same within there so_far adds =
-    let more : take (i + 1) ts ≡ take i ts ++ t ∷ [] = take_more ts i t within ∙ ap (λ u. take i ts ++ u ∷ []) (sym there) in
-    let parts : spec.transitions ≡ take i ts ++ t ∷ drop (i + 1) ts = sym same ∙ parts_at ts i t within ∙ ap (λ u. take i ts ++ u ∷ drop (i + 1) ts) (sym there) in
-    subst (λ before. SoFar kernel spec before new shown next) (sym more)
-    (goes_on kernel spec (take i ts) (drop (i + 1) ts) t old new shown now next parts so_far adds)
+-- A handler of the code is the specification's at its place.
+pub there_at : (ts : List Handler) (i : ℕ) (t : Handler) → i < length ts → t ≡ slice_index_or ts i t → slice_get (map view_transition ts) i ≡ Some (view_transition t)
+there_at ts i t within there = slice_get-map view_transition ts i ∙ ap (option_map view_transition) (slice_get_read ts (length ts) i t refl within there)
 
-pub is_cut_at : (kernel : Kernel) (spec : Spec) (ts : List Transition) (i : ℕ) (t : Transition) (old new : List Verdict) (shown now next : Option (List ℕ))
-    → ts ≡ spec.transitions → i < length ts → t ≡ slice_index_or ts i t → SoFar kernel spec (take i ts) old shown now → AddsCut kernel spec t old new now next
-    → AreCut kernel spec new shown next
-is_cut_at kernel spec ts i t old new shown now next same within there so_far adds =
-    let parts : spec.transitions ≡ take i ts ++ t ∷ drop (i + 1) ts = sym same ∙ parts_at ts i t within ∙ ap (λ u. take i ts ++ u ∷ drop (i + 1) ts) (sym there) in
-    is_cut kernel spec (take i ts) (drop (i + 1) ts) t old new shown now next parts so_far adds
+-- The list at a place, over the handlers of the code.
+split_at : (ts : List Handler) (i : ℕ) (t : Handler) → i < length ts → t ≡ slice_index_or ts i t
+    → map view_transition ts ≡ take i (map view_transition ts) ++ view_transition t ∷ drop (i + 1) (map view_transition ts)
+split_at ts i t within there =
+    let plain = map view_transition ts in
+    let same : view_transition t ≡ slice_index_or plain i (view_transition t) = ap view_transition there ∙ sym (get_or-map view_transition ts i t (view_transition t) within) in
+    let long = length-map ts view_transition in
+    parts_at plain i (view_transition t) (omega (arith, within, long)) ∙ ap (λ u. take i plain ++ u ∷ drop (i + 1) plain) (sym same)
+
+step_at : (ts : List Handler) (i : ℕ) (t : Handler) → i < length ts → t ≡ slice_index_or ts i t → take (i + 1) (map view_transition ts) ≡ take i (map view_transition ts) ++ view_transition t ∷ []
+step_at ts i t within there =
+    let plain = map view_transition ts in
+    let same : view_transition t ≡ slice_index_or plain i (view_transition t) = ap view_transition there ∙ sym (get_or-map view_transition ts i t (view_transition t) within) in
+    let long = length-map ts view_transition in
+    take_more plain i (view_transition t) (omega (arith, within, long)) ∙ ap (λ u. take i plain ++ u ∷ []) (sym same)
+
+-- One more handler, by its place in the list.
+pub goes_on_at : (m : ModuleView) (spec : Spec) (ts : List Handler) (i : ℕ) (t : Handler) (old new : List Verdict) (shown now next : Option (List ℕ))
+    → map view_transition ts ≡ spec.transitions → i < length ts → t ≡ slice_index_or ts i t → SoFar m spec (take i (map view_transition ts)) old shown now
+    → Adds m spec (view_transition t) old new now next → SoFar m spec (take (i + 1) (map view_transition ts)) new shown next
+goes_on_at m spec ts i t old new shown now next same within there so_far adds =
+    let plain = map view_transition ts in
+    subst (λ before. SoFar m spec before new shown next) (sym (step_at ts i t within there))
+    (goes_on m spec (take i plain) (drop (i + 1) plain) (view_transition t) old new shown now next (sym same ∙ split_at ts i t within there) so_far adds)
+
+pub is_cut_at : (m : ModuleView) (spec : Spec) (ts : List Handler) (i : ℕ) (t : Handler) (old new : List Verdict) (shown now next : Option (List ℕ))
+    → map view_transition ts ≡ spec.transitions → i < length ts → t ≡ slice_index_or ts i t → SoFar m spec (take i (map view_transition ts)) old shown now
+    → AddsCut m spec (view_transition t) old new now next → AreCut m spec new shown next
+is_cut_at m spec ts i t old new shown now next same within there so_far adds =
+    let plain = map view_transition ts in
+    is_cut m spec (take i plain) (drop (i + 1) plain) (view_transition t) old new shown now next (sym same ∙ split_at ts i t within there) so_far adds
 
 -- No handler yet.
-pub none_yet : (kernel : Kernel) (spec : Spec) (verdicts : List Verdict) (shown : Option (List ℕ)) → verdicts ≡ [] → SoFar kernel spec [] verdicts shown shown
-none_yet kernel spec verdicts shown empty =
-    let at_none : SoFar kernel spec [] [] shown shown = record { right = tt; says = shown_with-nothing shown ∙ ap (shown_with shown) (sym (ap (flat_map (λ v. verdict_text kernel spec v.0 v.1)) (zip-nothing spec.transitions))) } in
-    subst (λ vs. SoFar kernel spec [] vs shown shown) (sym empty) at_none
-
--- Every handler.
-pub all_shown : (kernel : Kernel) (spec : Spec) (ts : List Transition) (i : ℕ) (verdicts : List Verdict) (shown now : Option (List ℕ))
-    → ts ≡ spec.transitions → length ts ≤ i → SoFar kernel spec (take i ts) verdicts shown now → AreShown kernel spec verdicts shown now
-all_shown kernel spec ts i verdicts shown now same past so_far = record {
-  right = subst (λ before. AreRight kernel spec before verdicts) (take_all i ts past ∙ same) so_far.right;
-  says = so_far.says;
-}
+pub none_yet : (m : ModuleView) (spec : Spec) (verdicts : List Verdict) (shown : Option (List ℕ)) → verdicts ≡ [] → SoFar m spec [] verdicts shown shown
+none_yet m spec verdicts shown empty =
+    let at_none : SoFar m spec [] [] shown shown = record { right = tt; says = shown_with-nothing shown ∙ ap (shown_with shown) (sym (ap (flat_map (λ v. verdict_text m spec v.0 v.1)) (zip-nothing spec.transitions))) } in
+    subst (λ vs. SoFar m spec [] vs shown shown) (sym empty) at_none

@@ -3,16 +3,20 @@
 use Rattle.std.specs.Prelude.{ℕ, ◌≡◌, ◌⊎◌, [], List, Option, Some, None}
 use Rattle.hk_io.specs.Faults.{Rose}
 use Rattle.hk_io.specs.Shown.{shown_with, ShowsPrefix}
-use Rattle.ir_thin.specs.declared.tree.Kernel.{Kernel}
-use Rattle.spec_thin.specs.declared.tree.Spec.{Spec}
-use Rattle.hk_report.specs.declared.verdict.Verdict.{Verdict}
-use Rattle.hk_report.specs.declared.verdict.InitVerdict.TheVariants.{NotRun, Holds}
-use Rattle.hk_report.specs.Report.{init_text, report_text}
+use Rattle.ir_ast.specs.Program.{ModuleView}
+use Rattle.ir_layout.specs.Layouts.{LayoutView, IsLayoutOf}
+use Rattle.spec_tree.specs.Plain.{Spec}
+use Rattle.hk_verdict.specs.declared.verdict.Verdict.{Verdict}
+use Rattle.hk_verdict.specs.declared.verdict.InitVerdict.{InitVerdict}
+use Rattle.hk_verdict.specs.declared.verdict.InitVerdict.TheVariants.{NotRun}
+use Rattle.hk_verdict.specs.Report.{init_text, report_text}
+use Rattle.hk_try.specs.Opening.{IsOpening}
+use Rattle.hk_try.specs.Widths.{AreNarrow}
 use Rattle.hk_verify.specs.Verdicts.{AreRight, AreCut}
 use Rattle.hk_verify.specs.declared.answer.Answer.{Answer}
 use Rattle.hk_verify.specs.declared.answer.TopFault.{TopFault}
 use Rattle.hk_verify.specs.declared.answer.TopFault.TheVariants.{Usage, Read, Long, Kernel as OfKernel, Spec as OfSpec, Cnf as OfCnf, Call as OfCall, Wide, Memory, Write}
-use Rattle.hk_verify.specs.Inputs.{ShelfView, AreRead, AreNarrow, CountsLoads, HasCause}
+use Rattle.hk_verify.specs.Inputs.{ShelfView, AreRead, CountsLoads, HasCause}
 use Rattle.hk_verify.specs.Lines.{fault_text, fault_status, verdict_status}
 
 -- What a call sees of the sink: what is shown, where it tells of it, and its count of faults, before and after.
@@ -34,50 +38,52 @@ pub record IsRefused (sink : SinkView) (words : List (List ℕ)) (name : List �
   pub init : answer.init ≡ NotRun
   pub verdicts : answer.verdicts ≡ []
 
--- Every handler has its verdict, each is right, and the sink shows the report of them.
-pub record IsWhole (sink : SinkView) (kernel : Kernel) (spec : Spec) (answer : Answer) : Type 0 where
-  pub init : answer.init ≡ Holds
-  pub right : AreRight kernel spec spec.transitions answer.verdicts
-  pub says : sink.shown' ≡ shown_with sink.shown (report_text kernel spec Holds answer.verdicts)
+-- Every handler has its verdict, each is right, the opening is what it is, and the sink shows the report of them.
+pub record IsWhole (sink : SinkView) (m : ModuleView) (spec : Spec) (answer : Answer) : Type 0 where
+  pub opening : IsOpening m spec answer.init
+  pub right : AreRight m spec spec.transitions answer.verdicts
+  pub says : sink.shown' ≡ shown_with sink.shown (report_text m spec answer.init answer.verdicts)
   pub still : sink.faults' ≡ sink.faults
-  pub status : answer.status ≡ verdict_status answer.verdicts
+  pub status : answer.status ≡ verdict_status answer.init answer.verdicts
 
 -- The put of the opening failed.
-pub record IsInitCut (sink : SinkView) (verdicts : List Verdict) : Type 0 where
+pub record IsInitCut (sink : SinkView) (spec : Spec) (init : InitVerdict) (verdicts : List Verdict) : Type 0 where
   pub none : verdicts ≡ []
-  pub cut : ShowsPrefix sink.shown sink.shown' (init_text Holds)
+  pub cut : ShowsPrefix sink.shown sink.shown' (init_text spec init)
 
 -- A put failed, and nothing was put behind it: that of the opening, or one of the last verdict's lines.
-pub record IsCut (sink : SinkView) (kernel : Kernel) (spec : Spec) (answer : Answer) : Type 0 where
+pub record IsCut (sink : SinkView) (m : ModuleView) (spec : Spec) (answer : Answer) : Type 0 where
   pub failed : Rose sink.faults sink.faults'
-  pub init : answer.init ≡ Holds
-  pub shown : IsInitCut sink answer.verdicts ⊎ AreCut kernel spec answer.verdicts (shown_with sink.shown (init_text Holds)) sink.shown'
+  pub opening : IsOpening m spec answer.init
+  pub shown : IsInitCut sink spec answer.init answer.verdicts ⊎ AreCut m spec answer.verdicts (shown_with sink.shown (init_text spec answer.init)) sink.shown'
   pub status : answer.status ≡ 6
 
 -- What the report of a kernel and a specification leaves, by the answer's fault: the whole report, or a failed put.
-abbrev pub ReportsWith : SinkView → Kernel → Spec → Answer → Option TopFault → Type 0
-ReportsWith sink kernel spec answer None = IsWhole sink kernel spec answer
-ReportsWith sink kernel spec answer (Some Write) = IsCut sink kernel spec answer
-ReportsWith sink kernel spec answer (Some Usage) = ⊥
-ReportsWith sink kernel spec answer (Some (Read w)) = ⊥
-ReportsWith sink kernel spec answer (Some (Long w)) = ⊥
-ReportsWith sink kernel spec answer (Some (OfKernel f)) = ⊥
-ReportsWith sink kernel spec answer (Some (OfSpec f)) = ⊥
-ReportsWith sink kernel spec answer (Some (OfCnf f)) = ⊥
-ReportsWith sink kernel spec answer (Some (OfCall f)) = ⊥
-ReportsWith sink kernel spec answer (Some (Wide h)) = ⊥
-ReportsWith sink kernel spec answer (Some Memory) = ⊥
+abbrev pub ReportsWith : SinkView → ModuleView → Spec → Answer → Option TopFault → Type 0
+ReportsWith sink m spec answer None = IsWhole sink m spec answer
+ReportsWith sink m spec answer (Some Write) = IsCut sink m spec answer
+ReportsWith sink m spec answer (Some Usage) = ⊥
+ReportsWith sink m spec answer (Some (Read w)) = ⊥
+ReportsWith sink m spec answer (Some (Long w)) = ⊥
+ReportsWith sink m spec answer (Some (OfKernel f)) = ⊥
+ReportsWith sink m spec answer (Some (OfSpec f)) = ⊥
+ReportsWith sink m spec answer (Some (OfCnf f)) = ⊥
+ReportsWith sink m spec answer (Some (OfCall f)) = ⊥
+ReportsWith sink m spec answer (Some (Wide h)) = ⊥
+ReportsWith sink m spec answer (Some Memory) = ⊥
 
-abbrev pub Reports : SinkView → Kernel → Spec → Answer → Type 0
-Reports sink kernel spec answer = ReportsWith sink kernel spec answer answer.fault
+abbrev pub Reports : SinkView → ModuleView → Spec → Answer → Type 0
+Reports sink m spec answer = ReportsWith sink m spec answer answer.fault
 
 -- The texts were read, no handler is too wide, and this is their report.
 pub record IsReported (shelf : ShelfView) (sink : SinkView) (kernel_name spec_name : List ℕ) (answer : Answer) : Type 0 where
-  pub kernel : Kernel
+  pub module_ : ModuleView
+  pub layout : LayoutView
   pub spec : Spec
-  pub read : AreRead shelf.held kernel_name spec_name kernel spec
-  pub narrow : AreNarrow kernel spec.transitions
-  pub reports : Reports sink kernel spec answer
+  pub read : AreRead shelf.held kernel_name spec_name module_ spec
+  pub laid : IsLayoutOf module_ layout
+  pub narrow : AreNarrow layout.objects spec
+  pub reports : Reports sink module_ spec answer
 
 -- The call ended before the line of the opening, with a fault that has its cause.
 pub record IsEnded (shelf : ShelfView) (sink : SinkView) (words : List (List ℕ)) (kernel_name spec_name : List ℕ) (answer : Answer) : Type 0 where

@@ -1,18 +1,19 @@
 -- What was read: the texts that were loaded, the kernel and the specification that they spell, and why there is none.
 
-use Rattle.std.specs.Prelude.{ℕ, ◌<◌, ◌≤◌, ◌≡◌, List, [], ◌∷◌, ◌++◌, Option, Some, IsSome, IsSomeAnd, All, ⊤, length, slice_get, take, Result, Ok, Err, ◌^◌}
+use Rattle.std.specs.Prelude.{ℕ, ◌<◌, ◌≤◌, ◌≡◌, List, [], ◌∷◌, ◌++◌, Option, Some, IsSome, IsSomeAnd, ⊤, length, slice_get, Result, Ok, Err}
 use Rattle.std.specs.List.{AllZip}
 use Rattle.hk_io.specs.Faults.{Rose}
 use Rattle.hk_io.specs.Held.{Files, held_under}
+use Rattle.ir_ast.specs.Program.{ModuleView}
+use Rattle.ir_ast.specs.ProgramView.{view_module}
 use Rattle.ir_ast.specs.declared.fault.KernelFault.{KernelFault}
-use Rattle.ir_thin.specs.declared.tree.Kernel.{Kernel}
-use Rattle.spec_text.specs.declared.fault.SpecFault.{SpecFault}
-use Rattle.spec_thin.specs.declared.tree.Spec.{Spec}
-use Rattle.spec_thin.specs.declared.tree.Transition.{Transition}
-use Rattle.spec_text.specs.Spelling.{IsSpecText}
-use Rattle.spec_text.specs.Refusing.{IsRefused as IsRefusedSpec}
-use Rattle.hk_replay.specs.Violation.{case_bits}
-use Rattle.hk_verify.specs.Kernels.{IsTheKernel, IsRefusedKernel}
+use Rattle.ir_layout.specs.Layouts.{LayoutView, IsLayoutOf}
+use Rattle.spec_ast.specs.declared.fault.SpecFault.{SpecFault}
+use Rattle.spec_tree.specs.Plain.{Spec, Transition}
+use Rattle.spec_tree.specs.View.{view_spec}
+use Rattle.hk_try.specs.Widths.{IsFirstWide}
+use Rattle.hk_verify.specs.Whole.{IsWhole, RefusesWhole}
+use Rattle.hk_verify.specs.Specifications.{IsTheSpec, RefusesSpecText}
 use Rattle.hk_verify.specs.declared.inputs.Inputs.{Inputs}
 use Rattle.hk_verify.specs.declared.answer.TopFault.{TopFault}
 use Rattle.hk_verify.specs.declared.answer.TopFault.TheVariants.{Usage, Read, Long, Kernel as OfKernel, Spec as OfSpec, Cnf as OfCnf, Call as OfCall, Wide, Memory, Write}
@@ -97,52 +98,40 @@ abbrev pub CountsLoads : Option TopFault → ℕ → ℕ → Type 0
 CountsLoads (Some (Read w)) before after = Rose before after
 CountsLoads _ before after = after ≡ before
 
--- The specification that a text spells for a kernel: this one, and no other.
-pub record IsTheSpec (kernel : Kernel) (text : List ℕ) (spec : Spec) : Type 0 where
-  pub spelled : IsSpecText kernel text spec
-  pub only : (other : Spec) → IsSpecText kernel text other → other ≡ spec
-
--- The texts were loaded and read.
-pub record AreRead (held : Option Files) (kernel_name spec_name : List ℕ) (kernel : Kernel) (spec : Spec) : Type 0 where
+-- The texts were loaded and read: the kernel's spells this module, and the other this specification for it.
+pub record AreRead (held : Option Files) (kernel_name spec_name : List ℕ) (m : ModuleView) (spec : Spec) : Type 0 where
   pub kernel_text : List ℕ
   pub spec_text : List ℕ
   pub loaded : AreLoaded held (verify_files kernel_name spec_name) (kernel_text ∷ spec_text ∷ [])
-  pub the_kernel : IsTheKernel kernel_text kernel
-  pub the_spec : IsTheSpec kernel spec_text spec
+  pub the_kernel : IsWhole kernel_text m
+  pub the_spec : IsTheSpec m spec_text spec
 
--- The first handler whose cases have more than sixteen bits.
-pub record IsFirstWide (kernel : Kernel) (transitions : List Transition) (h : ℕ) (t : Transition) : Type 0 where
-  pub there : slice_get transitions h ≡ Some t
-  pub wide : 16 < case_bits kernel t
-  pub earlier : All (λ before. case_bits kernel before ≤ 16) (take h transitions)
-
--- No handler's cases have more than sixteen bits.
-abbrev pub AreNarrow : Kernel → List Transition → Type 0
-AreNarrow kernel transitions = All (λ t. case_bits kernel t ≤ 16) transitions
-
--- The kernel text spells no thin kernel.
+-- The kernel text spells no kernel.
 pub record RefusesKernel (held : Option Files) (kernel_name spec_name : List ℕ) (fault : KernelFault) : Type 0 where
   pub kernel_text : List ℕ
   pub spec_text : List ℕ
   pub loaded : AreLoaded held (verify_files kernel_name spec_name) (kernel_text ∷ spec_text ∷ [])
-  pub refused : IsRefusedKernel kernel_text fault
+  pub refused : RefusesWhole kernel_text fault
 
--- The specification text is no thin specification for the kernel.
+-- The kernel text spells a kernel, for which the specification text spells no specification.
 pub record RefusesSpec (held : Option Files) (kernel_name spec_name : List ℕ) (fault : SpecFault) : Type 0 where
   pub kernel_text : List ℕ
   pub spec_text : List ℕ
-  pub kernel : Kernel
+  pub module_ : ModuleView
   pub loaded : AreLoaded held (verify_files kernel_name spec_name) (kernel_text ∷ spec_text ∷ [])
-  pub the_kernel : IsTheKernel kernel_text kernel
-  pub refused : IsRefusedSpec kernel spec_text fault
+  pub the_kernel : IsWhole kernel_text module_
+  pub refused : RefusesSpecText module_ spec_text fault
 
--- A handler of this name is the first one that is too wide to run all its cases.
+-- A handler of this name is the first one that has an obligation with too many cases to try them all.
 pub record RefusesWidth (held : Option Files) (kernel_name spec_name : List ℕ) (h : ℕ) (name : List ℕ) : Type 0 where
-  pub kernel : Kernel
+  pub module_ : ModuleView
+  pub layout : LayoutView
   pub spec : Spec
   pub transition : Transition
-  pub read : AreRead held kernel_name spec_name kernel spec
-  pub first : IsFirstWide kernel spec.transitions h transition
+  pub read : AreRead held kernel_name spec_name module_ spec
+  pub laid : IsLayoutOf module_ layout
+  pub first : IsFirstWide layout.objects spec h
+  pub there : slice_get spec.transitions h ≡ Some transition
   pub named : name ≡ transition.name
 
 -- Why a verification for these words ended before its first line, with the name of the handler where it is too wide.
@@ -159,26 +148,20 @@ HasCause shelf kernel spec name (Wide h) = RefusesWidth shelf.held kernel spec h
 HasCause shelf kernel spec name Memory = ⊤
 HasCause shelf kernel spec name Write = ⊥
 
--- The numbers of the specification's fields and handlers fit their types.
-pub record IsSmall (spec : Spec) : Type 0 where
-  pub fields : length spec.fields < 2 ^ 32
-  pub transitions : length spec.transitions < 2 ^ 32
-
 -- What reading both texts gives: the kernel and the specification that they spell, or the refusal of the first that is none.
 pub record Reads (kernel_text spec_text : List ℕ) (inputs : Inputs) : Type 0 where
-  pub the_kernel : IsTheKernel kernel_text inputs.kernel
-  pub the_spec : IsTheSpec inputs.kernel spec_text inputs.spec
-  pub small : IsSmall inputs.spec
+  pub the_kernel : IsWhole kernel_text (view_module inputs.kernel)
+  pub the_spec : IsTheSpec (view_module inputs.kernel) spec_text (view_spec inputs.spec)
 
-pub record RefusesSpecText (kernel_text spec_text : List ℕ) (fault : SpecFault) : Type 0 where
-  pub kernel : Kernel
-  pub the_kernel : IsTheKernel kernel_text kernel
-  pub refused : IsRefusedSpec kernel spec_text fault
+pub record RefusesSecond (kernel_text spec_text : List ℕ) (fault : SpecFault) : Type 0 where
+  pub module_ : ModuleView
+  pub the_kernel : IsWhole kernel_text module_
+  pub refused : RefusesSpecText module_ spec_text fault
 
 abbrev pub ReadsTo : List ℕ → List ℕ → Result Inputs TopFault → Type 0
 ReadsTo kernel_text spec_text (Ok inputs) = Reads kernel_text spec_text inputs
-ReadsTo kernel_text spec_text (Err (OfKernel f)) = IsRefusedKernel kernel_text f
-ReadsTo kernel_text spec_text (Err (OfSpec f)) = RefusesSpecText kernel_text spec_text f
+ReadsTo kernel_text spec_text (Err (OfKernel f)) = RefusesWhole kernel_text f
+ReadsTo kernel_text spec_text (Err (OfSpec f)) = RefusesSecond kernel_text spec_text f
 ReadsTo kernel_text spec_text (Err Memory) = ⊤
 ReadsTo kernel_text spec_text (Err Usage) = ⊥
 ReadsTo kernel_text spec_text (Err (Read w)) = ⊥

@@ -1,10 +1,10 @@
 pub mod Answers
 pub mod Headline
 pub mod Inputs
-pub mod Kernels
 pub mod Lines
 pub mod Lrat
 pub mod Runs
+pub mod Specifications
 pub mod Verdicts
 pub mod Whole
 pub mod Words

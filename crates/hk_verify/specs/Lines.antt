@@ -1,17 +1,19 @@
 -- The lines that the top call puts for faults, and the statuses.
 
-use Rattle.std.specs.Prelude.{ℕ, List, [], ◌∷◌, codes, slice_index_or, if◌then◌else◌, Bool, true, false}
+use Rattle.std.specs.Prelude.{ℕ, List, [], ◌∷◌, codes, slice_index_or, if◌then◌else◌, ◌||◌, Bool, true, false}
 use Rattle.std.specs.List.{list_any}
 use Rattle.std.specs.Fmt.{decimal}
 use Rattle.ir_ast.specs.declared.fault.KernelReason.{KernelReason}
 use Rattle.ir_ast.specs.declared.fault.KernelReason.TheVariants.{K1, K2, K3, K4, K5, K6, K7, K8, K9, K10, K11, K12, K13, K14, K15}
-use Rattle.spec_text.specs.declared.fault.SpecReason.{SpecReason}
-use Rattle.spec_text.specs.declared.fault.SpecReason.TheVariants.{S3}
+use Rattle.spec_ast.specs.declared.fault.SpecReason.{SpecReason}
+use Rattle.spec_ast.specs.declared.fault.SpecReason.TheVariants.{S1, S2, S3, S4, S5, S6, S7, S8, S9, S10, S11, S12, S13, S14, S15}
 use Rattle.hk_cnf.specs.declared.dimacs_read.CnfReason.{CnfReason}
 use Rattle.hk_cnf.specs.declared.dimacs_read.CnfReason.TheVariants.{C1, C2, C3}
 use Rattle.hk_rows.specs.Texts.{line}
-use Rattle.hk_report.specs.declared.verdict.Verdict.{Verdict}
-use Rattle.hk_report.specs.declared.verdict.Verdict.TheVariants.{Accepted, Rejected, Memory as NoMemory}
+use Rattle.hk_verdict.specs.declared.verdict.Verdict.{Verdict}
+use Rattle.hk_verdict.specs.declared.verdict.Verdict.TheVariants.{Accepted, Rejected, Memory as NoMemory}
+use Rattle.hk_verdict.specs.declared.verdict.InitVerdict.{InitVerdict}
+use Rattle.hk_verdict.specs.declared.verdict.InitVerdict.TheVariants.{NotRun, Holds, FailsInvariant, FailsProperty}
 use Rattle.hk_verify.specs.declared.answer.CallReason.{CallReason}
 use Rattle.hk_verify.specs.declared.answer.CallReason.TheVariants.{A1, A2, A3}
 use Rattle.hk_verify.specs.declared.answer.TopFault.{TopFault}
@@ -36,7 +38,21 @@ kernel_code K14 = codes "K14"
 kernel_code K15 = codes "K15"
 
 abbrev pub spec_code : SpecReason → List ℕ
+spec_code S1 = codes "S1"
+spec_code S2 = codes "S2"
 spec_code S3 = codes "S3"
+spec_code S4 = codes "S4"
+spec_code S5 = codes "S5"
+spec_code S6 = codes "S6"
+spec_code S7 = codes "S7"
+spec_code S8 = codes "S8"
+spec_code S9 = codes "S9"
+spec_code S10 = codes "S10"
+spec_code S11 = codes "S11"
+spec_code S12 = codes "S12"
+spec_code S13 = codes "S13"
+spec_code S14 = codes "S14"
+spec_code S15 = codes "S15"
 
 abbrev pub cnf_code : CnfReason → List ℕ
 cnf_code C1 = codes "C1"
@@ -88,6 +104,16 @@ is_memory Accepted = false
 is_memory (Rejected o c) = false
 is_memory NoMemory = true
 
+abbrev pub is_failed : InitVerdict → Bool
+is_failed NotRun = false
+is_failed Holds = false
+is_failed (FailsInvariant i) = true
+is_failed (FailsProperty p) = true
+
+-- Something was found wrong: the opening fails, or a handler is rejected.
+abbrev pub is_faulted : InitVerdict → List Verdict → Bool
+is_faulted init verdicts = is_failed init || list_any is_rejection verdicts
+
 -- The status of a verification without a fault.
-abbrev pub verdict_status : List Verdict → ℕ
-verdict_status verdicts = if list_any is_rejection verdicts then 1 else if list_any is_memory verdicts then 7 else 0
+abbrev pub verdict_status : InitVerdict → List Verdict → ℕ
+verdict_status init verdicts = if is_faulted init verdicts then 1 else if list_any is_memory verdicts then 7 else 0

@@ -15,7 +15,7 @@ use Rattle.hk_lrat.specs.declared.log.RowReason.TheVariants.{L1, L2, L3, L4, L5,
 use Rattle.hk_lrat.specs.Log.{Fault, log_fault}
 use Rattle.hk_lrat.specs.LogText.{log_of}
 use Rattle.hk_rows.specs.Texts.{line}
-use Rattle.hk_report.specs.declared.verdict.InitVerdict.TheVariants.{NotRun}
+use Rattle.hk_verdict.specs.declared.verdict.InitVerdict.TheVariants.{NotRun}
 use Rattle.hk_verify.specs.declared.answer.Answer.{Answer}
 use Rattle.hk_verify.specs.declared.answer.TopFault.{TopFault}
 use Rattle.hk_verify.specs.declared.answer.TopFault.TheVariants.{Usage, Read, Long, Kernel as OfKernel, Spec as OfSpec, Cnf as OfCnf, Call as OfCall, Wide, Memory, Write}

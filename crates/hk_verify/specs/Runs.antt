@@ -21,7 +21,7 @@ use Rattle.ir_kernel.specs.declared.passing.Misfit.TheVariants.{Unknown, Count, 
 use Rattle.ir_kernel.specs.Passing.{misfit}
 use Rattle.hk_rows.specs.Rows.{memory_text}
 use Rattle.hk_rows.specs.Texts.{line}
-use Rattle.hk_report.specs.declared.verdict.InitVerdict.TheVariants.{NotRun}
+use Rattle.hk_verdict.specs.declared.verdict.InitVerdict.TheVariants.{NotRun}
 use Rattle.hk_verify.specs.declared.answer.Answer.{Answer}
 use Rattle.hk_verify.specs.declared.answer.CallFault.{CallFault}
 use Rattle.hk_verify.specs.declared.answer.CallReason.{CallReason}

@@ -14,6 +14,12 @@ use Rattle.ir_kernel.specs.Answers.{IsRefusal}
 use Rattle.hk_verify.specs.declared.answer.TopFault.{TopFault}
 use Rattle.hk_verify.specs.declared.answer.TopFault.TheVariants.{Usage, Read, Long, Kernel as OfKernel, Spec as OfSpec, Cnf as OfCnf, Call as OfCall, Wide, Memory, Write}
 
+-- The text spells this module, which can be laid out and is well formed.
+pub record IsKernelText (text : List ℕ) (m : ModuleView) : Type 0 where
+  pub spelled : IsModuleText text m
+  pub laid_out : IsLaidOut m
+  pub well_formed : IsWellFormed m
+
 -- The text spells this module and no other, which can be laid out and is well formed.
 pub record IsWhole (text : List ℕ) (m : ModuleView) : Type 0 where
   pub spelled : IsModuleText text m

@@ -1,10 +1,10 @@
 //! What the top call answers.
 
 use hk_cnf::CnfFault;
-use hk_report::{InitVerdict, Verdict};
 use hk_seq::Seq;
+use hk_verdict::{InitVerdict, Verdict};
 use ir_ast::KernelFault;
-use spec_text::SpecFault;
+use spec_ast::SpecFault;
 
 /// Why a function is not run. It is printed as its name.
 #[derive(Clone, Copy, Debug, PartialEq, Eq)]
@@ -42,7 +42,7 @@ pub enum TopFault {
     Cnf(CnfFault),
     /// The function is not run.
     Call(CallFault),
-    /// This handler has more than sixteen case bits, and is the first such.
+    /// This handler has an obligation of more than sixteen case bits, and is the first such.
     Wide { handler: u32 },
     /// Memory was refused before the first line.
     Memory,

@@ -6,6 +6,7 @@
 
 pub mod answer;
 mod inputs;
+mod kernel;
 mod load;
 mod lrat;
 #[cfg(test)]
@@ -14,8 +15,6 @@ mod refusal;
 #[cfg(test)]
 mod run_tests;
 mod running;
-#[cfg(test)]
-mod tests;
 mod top;
 mod verdicts;
 mod verify;

@@ -19,9 +19,9 @@ use crate::refusal::{refuse, status};
 use hk_cnf::{ClauseList, CnfStop, read_dimacs};
 use hk_io::{Shelf, Sink, SinkFault};
 use hk_lrat::{RefuteStop, RowReason, read_log, refutes};
-use hk_report::InitVerdict;
 use hk_rows::{Part, put_line};
 use hk_seq::Seq;
+use hk_verdict::InitVerdict;
 use std::alloc::Global;
 
 /// The most bytes of a clause file, and of a proof: 256 MiB.

@@ -11,11 +11,11 @@ ghost use Rattle.hk_verify.specs.Answers.{SinkView, IsRefused};
 use crate::answer::{Answer, CallReason, TopFault};
 use hk_cnf::CnfReason;
 use hk_io::{Sink, SinkFault};
-use hk_report::InitVerdict;
 use hk_rows::{Part, put_line};
 use hk_seq::Seq;
+use hk_verdict::InitVerdict;
 use ir_ast::KernelReason;
-use spec_text::SpecReason;
+use spec_ast::SpecReason;
 use std::alloc::Global;
 
 /// The word that names the function of `run`, counted from 0.
@@ -67,7 +67,21 @@ fn spec_reason(reason: SpecReason) -> &'static [u8]
     ensures { result.now ≡ spec_code reason }
 {
     match reason {
+        SpecReason::S1 => b"S1",
+        SpecReason::S2 => b"S2",
         SpecReason::S3 => b"S3",
+        SpecReason::S4 => b"S4",
+        SpecReason::S5 => b"S5",
+        SpecReason::S6 => b"S6",
+        SpecReason::S7 => b"S7",
+        SpecReason::S8 => b"S8",
+        SpecReason::S9 => b"S9",
+        SpecReason::S10 => b"S10",
+        SpecReason::S11 => b"S11",
+        SpecReason::S12 => b"S12",
+        SpecReason::S13 => b"S13",
+        SpecReason::S14 => b"S14",
+        SpecReason::S15 => b"S15",
     }
 }
 

@@ -1,7 +1,7 @@
 //! The command `run KERNEL FUNCTION [ARG ..]`.
 
 ghost use Rattle.std.specs.Result.{result_err};
-ghost use Rattle.std.specs.Prelude.{◌≡◌, ◌<◌, ◌^◌, ◌∷◌, ℕ, List, IfOk, IfErr, OnOk, OnErr, length, codes};
+ghost use Rattle.std.specs.Prelude.{◌≡◌, ◌<◌, ◌∷◌, ℕ, List, IfOk, IfErr, OnOk, OnErr, codes};
 ghost use Rattle.hk_io.specs.Faults.{Rose};
 ghost use Rattle.hk_io.specs.Shown.{shown_with, ShowsPrefix};
 ghost use Rattle.ir_ast.specs.ProgramView.{view_module};
@@ -13,54 +13,25 @@ ghost use Rattle.ir_kernel.specs.Passing.{Passes};
 ghost use Rattle.hk_verify.specs.Inputs.{ShelfView, CountsLoads};
 ghost use Rattle.hk_verify.specs.Answers.{SinkView, HidesNone};
 ghost use Rattle.hk_verify.specs.Words.{IsRun, bytes_of};
-ghost use Rattle.hk_verify.specs.Whole.{IsWhole, IsWholeStop, ReadsWhole};
 ghost use Rattle.hk_verify.specs.Runs.{Calls, FaultOf, HasRunCause, IsRan, MeansRun, TellsEnd, end_status, end_text, returned_line, returned_text, stuck_code, stuck_line};
 
 use crate::answer::{Answer, CallFault, CallReason, TopFault};
-use crate::inputs::KERNEL_LIMIT;
+use crate::kernel::{KERNEL_LIMIT, read_whole};
 use crate::load::load_first;
 use crate::refusal::{FUNCTION_WORD, refuse, status};
 use crate::words::numbers_of;
 use hk_io::{Shelf, Sink, SinkFault};
-use hk_report::InitVerdict;
 use hk_rows::{Part, put_line, put_memory};
 use hk_seq::Seq;
-use ir_ast::{KernelStop, Name};
+use hk_verdict::InitVerdict;
+use ir_ast::Name;
 use ir_kernel::{Kernel, Misfit, Passed, RunEnd, initial_memory, pass};
 use ir_layout::KMemory;
-use ir_read::read_module;
 use ir_value::StuckReason;
 use std::alloc::{AllocError, Global};
 
 /// The word of the first argument, counted from 0.
 const FIRST_ARGUMENT: u64 = 3;
-
-/// The whole kernel that a text spells.
-fn whole_kernel(alloc: Global, text: &[u8]) -> Result<Kernel, KernelStop>
-    requires { length text.now < 2 ^ 31 }
-    ensures found { IfOk result (λ kernel. IsWhole text.now (view_module kernel)) }
-    ensures fault { IfErr result (IsWholeStop text.now) }
-{
-    match read_module(alloc, text) {
-        Ok(read) => match Kernel::new(alloc, read) {
-            Ok(kernel) => Ok(kernel),
-            Err(stop) => Err(stop),
-        },
-        Err(stop) => Err(stop),
-    }
-}
-
-/// Reads a whole kernel.
-fn read_whole(alloc: Global, text: &[u8]) -> Result<Kernel, TopFault>
-    requires { length text.now < 2 ^ 31 }
-    ensures { ReadsWhole text.now result }
-{
-    match whole_kernel(alloc, text) {
-        Ok(kernel) => Ok(kernel),
-        Err(KernelStop::Refused(fault)) => Err(TopFault::Kernel(fault)),
-        Err(KernelStop::Memory) => Err(TopFault::Memory),
-    }
-}
 
 /// A fault of a call.
 fn at_word(word: u32, reason: CallReason) -> TopFault

@@ -1,45 +1,44 @@
 //! The handlers of a specification, decided and reported one after another.
 
-ghost use Rattle.std.specs.Prelude.{◌≡◌, ◌≤◌, ◌+◌, ◌<◌, ◌^◌, false, [], IsTrue, IfSome, IfNone, OnOk, OnErr, length, vec_len};
+ghost use Rattle.std.specs.Prelude.{◌≡◌, ◌≤◌, ◌+◌, ◌<◌, [], Some, OnOk, OnErr, length, slice_get, vec_len};
 ghost use Rattle.std.specs.Vec.{vec_capacity};
 ghost use Rattle.hk_io.specs.Faults.{Rose};
-ghost use Rattle.hk_replay.specs.Violation.{case_bits};
-ghost use Rattle.spec_thin.specs.declared.tree.Transition.{Transition as Handler};
-ghost use Rattle.hk_verify.specs.Inputs.{AreNarrow, IsFirstWide, IsSmall};
-ghost use Rattle.hk_verify.specs.Verdicts.{Adds, AddsCut, AreCut, AreShown};
+ghost use Rattle.ir_ast.specs.ProgramView.{view_module};
+ghost use Rattle.ir_layout.specs.Layouts.{LayoutView, IsLayoutOf};
+ghost use Rattle.spec_tree.specs.Sorted.{IsWellSorted};
+ghost use Rattle.spec_tree.specs.View.{view_spec, view_transition};
+ghost use Rattle.spec_kernel.specs.Fit.{FitsModule};
+ghost use Rattle.hk_verdict.specs.Report.{IsShownVerdict};
+ghost use Rattle.hk_try.specs.Widths.{AreNarrow};
+ghost use Rattle.hk_verify.specs.Verdicts.{Adds, AddsCut, AreCut, AreShown, IsRightFor};
 
-use hk_decide::decide;
 use hk_io::{Sink, SinkFault};
-use hk_report::{Verdict, put_verdict};
-use ir_thin::tree::Kernel;
-use spec_thin::tree::{Spec, Transition};
+use hk_try::decide;
+use hk_verdict::{Verdict, put_verdict};
+use ir_kernel::Kernel;
+use spec_tree::{Spec, Transition};
 use std::alloc::Global;
 
-/// The most bytes of a case whose obligations are decided.
-const MOST_BYTES: usize = 2;
-
-/// Whether the cases of a handler have more than sixteen bits.
-fn is_wide(kernel: &Kernel, transition: &Transition) -> bool
-    ensures wide { IsTrue result → 16 < case_bits kernel.now transition.now }
-    ensures narrow { result ≡ false → case_bits kernel.now transition.now ≤ 16 }
+/// The verdict of the handler at a place: want of memory where it was refused in deciding it.
+fn verdict_of(
+    alloc: Global,
+    kernel: &Kernel,
+    spec: &Spec,
+    place: u32,
+    transition: &Transition,
+) -> Verdict
+    requires sorted { IsWellSorted (view_spec spec.now) }
+    requires fits { FitsModule (view_module kernel.now) (view_spec spec.now) }
+    requires there { slice_get (view_spec spec.now).transitions place ≡ Some (view_transition transition.now) }
+    requires narrow { (l : LayoutView) → IsLayoutOf (view_module kernel.now) l → AreNarrow l.objects (view_spec spec.now) }
+    ensures right { IsRightFor (view_module kernel.now) (view_spec spec.now) (view_transition transition.now) result }
+    ensures shown { IsShownVerdict (view_spec spec.now) result }
 {
-    let globals = kernel.globals.len();
-    let parameters = transition.parameters as usize;
-    globals > MOST_BYTES || globals + parameters > MOST_BYTES
-}
-
-/// The place of the first handler whose cases have more than sixteen bits.
-pub fn first_wide(kernel: &Kernel, transitions: &[Transition]) -> Option<usize>
-    ensures found { IfSome result (λ place. (t : Handler) × IsFirstWide kernel.now transitions.now place t) }
-    ensures within { IfSome result (λ place. place < length transitions.now) }
-    ensures none { IfNone result (AreNarrow kernel.now transitions.now) }
-{
-    for (place, transition) in transitions.iter().enumerate() {
-        if is_wide(kernel, transition) {
-            return Some(place);
-        }
+    let _layout = kernel.layout();
+    match decide(alloc, kernel, spec, place) {
+        Ok(verdict) => verdict,
+        Err(_) => Verdict::Memory,
     }
-    None
 }
 
 /// Decides one handler, puts its lines and adds its verdict to the list, which has room for it.
@@ -47,21 +46,24 @@ fn decide_next<O: Sink>(
     alloc: Global,
     kernel: &Kernel,
     spec: &Spec,
+    place: u32,
     transition: &Transition,
     verdicts: &mut Vec<Verdict>,
     out: &mut O,
 ) -> Result<(), SinkFault>
-    requires narrow { case_bits kernel.now transition.now ≤ 16 }
-    requires places { length spec.now.fields < 2 ^ 32 }
+    requires sorted { IsWellSorted (view_spec spec.now) }
+    requires fits { FitsModule (view_module kernel.now) (view_spec spec.now) }
+    requires there { slice_get (view_spec spec.now).transitions place ≡ Some (view_transition transition.now) }
+    requires narrow { (l : LayoutView) → IsLayoutOf (view_module kernel.now) l → AreNarrow l.objects (view_spec spec.now) }
     requires room { vec_len verdicts.old < vec_capacity verdicts.old }
-    ensures whole { OnOk result (Adds kernel.now spec.now transition.now verdicts.old.items verdicts.new.items (O.shown out.old) (O.shown out.new)) }
-    ensures cut { OnErr result (AddsCut kernel.now spec.now transition.now verdicts.old.items verdicts.new.items (O.shown out.old) (O.shown out.new)) }
+    ensures whole { OnOk result (Adds (view_module kernel.now) (view_spec spec.now) (view_transition transition.now) verdicts.old.items verdicts.new.items (O.shown out.old) (O.shown out.new)) }
+    ensures cut { OnErr result (AddsCut (view_module kernel.now) (view_spec spec.now) (view_transition transition.now) verdicts.old.items verdicts.new.items (O.shown out.old) (O.shown out.new)) }
     ensures failed { OnErr result (Rose (O.faults out.old) (O.faults out.new)) }
     ensures still { OnOk result (O.faults out.new ≡ O.faults out.old) }
     ensures room { vec_capacity verdicts.new ≡ vec_capacity verdicts.old }
     ensures counted { vec_len verdicts.new ≡ vec_len verdicts.old + 1 }
 {
-    let verdict = decide(alloc, kernel, spec, transition).unwrap_or(Verdict::Memory);
+    let verdict = verdict_of(alloc, kernel, spec, place, transition);
     let put = put_verdict(out, kernel, spec, transition, &verdict);
     verdicts.push_reserved(verdict);
     put
@@ -77,18 +79,20 @@ pub fn decide_all<O: Sink>(
     verdicts: &mut Vec<Verdict>,
     out: &mut O,
 ) -> Result<(), SinkFault>
-    requires narrow { AreNarrow kernel.now spec.now.transitions }
-    requires places { length spec.now.fields < 2 ^ 32 }
+    requires sorted { IsWellSorted (view_spec spec.now) }
+    requires fits { FitsModule (view_module kernel.now) (view_spec spec.now) }
+    requires narrow { (l : LayoutView) → IsLayoutOf (view_module kernel.now) l → AreNarrow l.objects (view_spec spec.now) }
     requires empty { verdicts.old.items ≡ [] }
     requires unused { vec_len verdicts.old ≡ 0 }
     requires room { length spec.now.transitions ≤ vec_capacity verdicts.old }
-    ensures whole { OnOk result (AreShown kernel.now spec.now verdicts.new.items (O.shown out.old) (O.shown out.new)) }
-    ensures cut { OnErr result (AreCut kernel.now spec.now verdicts.new.items (O.shown out.old) (O.shown out.new)) }
+    ensures whole { OnOk result (AreShown (view_module kernel.now) (view_spec spec.now) verdicts.new.items (O.shown out.old) (O.shown out.new)) }
+    ensures cut { OnErr result (AreCut (view_module kernel.now) (view_spec spec.now) verdicts.new.items (O.shown out.old) (O.shown out.new)) }
     ensures failed { OnErr result (Rose (O.faults out.old) (O.faults out.new)) }
     ensures still { OnOk result (O.faults out.new ≡ O.faults out.old) }
 {
-    for transition in spec.transitions.as_slice() {
-        decide_next(alloc, kernel, spec, transition, verdicts, out)?;
+    let transitions = spec.transitions.as_slice();
+    for (place, transition) in transitions.iter().enumerate() {
+        decide_next(alloc, kernel, spec, place as u32, transition, verdicts, out)?;
     }
     Ok(())
 }

@@ -1,12 +1,19 @@
 //! The command `verify KERNEL SPEC`.
 
-ghost use Rattle.std.specs.Prelude.{◌≡◌, ◌≤◌, [], length, vec_len};
+ghost use Rattle.std.specs.Prelude.{◌≡◌, ◌≤◌, [], Some, length, slice_get, vec_len, IfOk};
 ghost use Rattle.std.specs.List.{list_any};
 ghost use Rattle.std.specs.Vec.{vec_capacity};
-ghost use Rattle.hk_report.specs.declared.verdict.InitVerdict.TheVariants.{Holds};
+ghost use Rattle.ir_ast.specs.ProgramView.{view_module};
+ghost use Rattle.ir_layout.specs.Layouts.{LayoutView, IsLayoutOf};
+ghost use Rattle.spec_tree.specs.Plain.{Transition};
+ghost use Rattle.spec_tree.specs.Sorted.{IsWellSorted};
+ghost use Rattle.spec_tree.specs.View.{view_spec};
+ghost use Rattle.spec_kernel.specs.Fit.{FitsModule};
+ghost use Rattle.hk_try.specs.Opening.{IsOpening};
+ghost use Rattle.hk_try.specs.Widths.{AreNarrow};
 ghost use Rattle.hk_verify.specs.declared.answer.TopFault.TheVariants.{Write};
-ghost use Rattle.hk_verify.specs.Lines.{verdict_status, is_rejection as is_rejection_of, is_memory as is_memory_of};
-ghost use Rattle.hk_verify.specs.Inputs.{ShelfView, AreNarrow, IsSmall};
+ghost use Rattle.hk_verify.specs.Lines.{verdict_status, is_failed as is_failed_of, is_faulted as is_faulted_of, is_rejection as is_rejection_of, is_memory as is_memory_of};
+ghost use Rattle.hk_verify.specs.Inputs.{ShelfView};
 ghost use Rattle.hk_verify.specs.Answers.{SinkView, HidesNone, Means, Reports};
 ghost use Rattle.hk_verify.specs.Headline.{AcceptsCorrect, RejectsRefuted};
 ghost use Rattle.hk_verify.specs.Words.{IsVerify, bytes_of};
@@ -14,11 +21,24 @@ ghost use Rattle.hk_verify.specs.Words.{IsVerify, bytes_of};
 use crate::answer::{Answer, TopFault};
 use crate::inputs::{Inputs, read_inputs};
 use crate::refusal::{refuse, status};
-use crate::verdicts::{decide_all, first_wide};
+use crate::verdicts::decide_all;
 use hk_io::{Shelf, Sink};
-use hk_report::{InitVerdict, Verdict, put_init};
 use hk_seq::Seq;
-use std::alloc::Global;
+use hk_try::{first_wide, open};
+use hk_verdict::{InitVerdict, Verdict, put_init};
+use std::alloc::{AllocError, Global};
+
+/// Whether an opening is one that fails.
+fn is_failed(init: InitVerdict) -> bool
+    ensures { result ≡ is_failed_of init }
+{
+    match init {
+        InitVerdict::NotRun => false,
+        InitVerdict::Holds => false,
+        InitVerdict::FailsInvariant(_) => true,
+        InitVerdict::FailsProperty(_) => true,
+    }
+}
 
 /// Whether a verdict is a rejection.
 fn is_rejection(verdict: &Verdict) -> bool
@@ -56,11 +76,19 @@ fn has_memory(verdicts: &[Verdict]) -> bool
     verdicts.iter().any(|verdict| is_memory(verdict))
 }
 
-/// The status of verdicts: 1 where one is a rejection, else 7 where one is want of memory, else 0.
-fn status_of(verdicts: &[Verdict]) -> u8
-    ensures { result ≡ verdict_status verdicts.now }
+/// Whether something was found wrong: the opening fails, or a handler is rejected.
+fn is_faulted(init: InitVerdict, verdicts: &[Verdict]) -> bool
+    ensures { result ≡ is_faulted_of init verdicts.now }
 {
-    if has_rejection(verdicts) {
+    is_failed(init) || has_rejection(verdicts)
+}
+
+/// The status of a verification without a fault: 1 where the opening fails or a verdict is a rejection, else 7 where one is want of
+/// memory, else 0.
+fn status_of(init: InitVerdict, verdicts: &[Verdict]) -> u8
+    ensures { result ≡ verdict_status init verdicts.now }
+{
+    if is_faulted(init, verdicts) {
         1
     } else if has_memory(verdicts) {
         7
@@ -69,18 +97,49 @@ fn status_of(verdicts: &[Verdict]) -> u8
     }
 }
 
-/// The answer after a failed put: the verdicts up to the one whose lines failed.
-fn cut(verdicts: Vec<Verdict>) -> Answer
+/// The answer after a failed put: the verdicts up to the one whose line failed.
+fn cut(init: InitVerdict, verdicts: Vec<Verdict>) -> Answer
     ensures status { result.status ≡ 6 }
-    ensures init { result.init ≡ Holds }
+    ensures init { result.init ≡ init }
     ensures verdicts { result.verdicts ≡ verdicts.items }
     ensures fault { result.fault ≡ Some Write }
 {
     Answer {
         status: status(&TopFault::Write),
-        init: InitVerdict::Holds,
+        init,
         verdicts: Seq::from_vec(verdicts),
         fault: Some(TopFault::Write),
+    }
+}
+
+/// What is known before the first line: the opening, and a list with room for all verdicts.
+#[derive(Drop)]
+struct Begun {
+    init: InitVerdict,
+    verdicts: Vec<Verdict>,
+}
+
+/// Reserves the verdicts of all handlers, and tests the initial memory.
+fn begin(alloc: Global, inputs: &Inputs) -> Result<Begun, AllocError>
+    requires sorted { IsWellSorted (view_spec inputs.now.spec) }
+    requires fits { FitsModule (view_module inputs.now.kernel) (view_spec inputs.now.spec) }
+    ensures opening { IfOk result (λ b. IsOpening (view_module inputs.now.kernel) (view_spec inputs.now.spec) b.init) }
+    ensures empty { IfOk result (λ b. b.verdicts.items ≡ []) }
+    ensures unused { IfOk result (λ b. vec_len b.verdicts ≡ 0) }
+    ensures room { IfOk result (λ b. length inputs.now.spec.transitions ≤ vec_capacity b.verdicts) }
+{
+    let verdicts = Vec::with_capacity(alloc, inputs.spec.transitions.as_slice().len())?;
+    let init = open(alloc, &inputs.kernel, &inputs.spec)?;
+    Ok(Begun { init, verdicts })
+}
+
+/// The name of the handler at a place; nothing where there is none.
+fn name_at(inputs: &Inputs, place: u32) -> &[u8]
+    ensures { (t : Transition) → slice_get (view_spec inputs.now.spec).transitions place ≡ Some t → result.now ≡ t.name }
+{
+    match inputs.spec.transitions.as_slice().get(place as usize) {
+        Some(transition) => transition.name.as_bytes(),
+        None => &[],
     }
 }
 
@@ -88,26 +147,29 @@ fn cut(verdicts: Vec<Verdict>) -> Answer
 fn report<O: Sink>(
     alloc: Global,
     inputs: &Inputs,
+    init: InitVerdict,
     mut verdicts: Vec<Verdict>,
     out: &mut O,
 ) -> Answer
-    requires narrow { AreNarrow inputs.now.kernel inputs.now.spec.transitions }
-    requires small { IsSmall inputs.now.spec }
+    requires sorted { IsWellSorted (view_spec inputs.now.spec) }
+    requires fits { FitsModule (view_module inputs.now.kernel) (view_spec inputs.now.spec) }
+    requires narrow { (l : LayoutView) → IsLayoutOf (view_module inputs.now.kernel) l → AreNarrow l.objects (view_spec inputs.now.spec) }
+    requires opening { IsOpening (view_module inputs.now.kernel) (view_spec inputs.now.spec) init }
     requires empty { verdicts.items ≡ [] }
     requires unused { vec_len verdicts ≡ 0 }
     requires room { length inputs.now.spec.transitions ≤ vec_capacity verdicts }
     ensures { let sink : SinkView = record { shown = O.shown out.old; shown' = O.shown out.new; faults = O.faults out.old; faults' = O.faults out.new } in
-        Reports sink inputs.now.kernel inputs.now.spec result }
+        Reports sink (view_module inputs.now.kernel) (view_spec inputs.now.spec) result }
 {
-    if put_init(out, InitVerdict::Holds).is_err() {
-        return cut(verdicts);
+    if put_init(out, &inputs.spec, init).is_err() {
+        return cut(init, verdicts);
     }
     if decide_all(alloc, &inputs.kernel, &inputs.spec, &mut verdicts, out).is_err() {
-        return cut(verdicts);
+        return cut(init, verdicts);
     }
     Answer {
-        status: status_of(&verdicts),
-        init: InitVerdict::Holds,
+        status: status_of(init, &verdicts),
+        init,
         verdicts: Seq::from_vec(verdicts),
         fault: None,
     }
@@ -158,13 +220,13 @@ fn load_and_report<'x, F: Shelf, O: Sink>(
         Ok(inputs) => inputs,
         Err(fault) => return refuse(alloc, out, words, &[], fault),
     };
-    if let Some(place) = first_wide(&inputs.kernel, inputs.spec.transitions.as_slice()) {
-        let name = inputs.spec.transitions.at(place).name.as_slice();
-        let handler = place as u32;
+    let _layout = inputs.kernel.layout();
+    if let Some(handler) = first_wide(&inputs.kernel, &inputs.spec) {
+        let name = name_at(&inputs, handler);
         return refuse(alloc, out, words, name, TopFault::Wide { handler });
     }
-    match Vec::with_capacity(alloc, inputs.spec.transitions.len()) {
-        Ok(verdicts) => report(alloc, &inputs, verdicts, out),
+    match begin(alloc, &inputs) {
+        Ok(begun) => report(alloc, &inputs, begun.init, begun.verdicts, out),
         Err(_) => refuse(alloc, out, words, &[], TopFault::Memory),
     }
 }

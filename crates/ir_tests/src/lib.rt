@@ -1,12 +1,10 @@
-//! Tests of the kernel readers and of thin kernels, by their public calls alone: a table of texts for each layer.
+//! Tests of the kernel readers, by their public calls alone: a table of texts for each layer.
 //!
 //! They stand in a crate of their own, so that the readers are not proved a second time for them.
 #![tactic(auto)]
 
 #[cfg(test)]
 mod body_tests;
-#[cfg(test)]
-mod meaning_tests;
 #[cfg(test)]
 mod part_tests;
 #[cfg(test)]

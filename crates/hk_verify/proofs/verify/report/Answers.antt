@@ -1,13 +1,15 @@
 use Rattle.std.proofs.Common.{refl, ap, sym, ◌∙◌}
+use Rattle.ir_ast.specs.ProgramView.{view_module}
+use Rattle.spec_tree.specs.View.{view_spec}
 use Rattle.hk_verify.specs.Lines.{verdict_status}
 use Rattle.hk_verify.proofs.Whole.{where_ok, whole_report}
 use Rattle.hk_verify.proofs.verify.report.Goals as goal
 
 pub returns : goal.returns
 returns g c =
-    whole_report _ c.args.inputs.now.kernel c.args.inputs.now.spec _ _ _
+    whole_report _ (view_module c.args.inputs.now.kernel) (view_spec c.args.inputs.now.spec) c.args.init _ _ _ c.requires.opening
     (where_ok c.put_init.result _ (sym c.is_err.ensures.value ∙ c.if-is_err.false) c.put_init.ensures.whole)
     (where_ok c.decide_all.result _ (sym c.is_err-2.ensures.value ∙ c.if-is_err-2.false) c.decide_all.ensures.whole)
     (where_ok c.decide_all.result _ (sym c.is_err-2.ensures.value ∙ c.if-is_err-2.false) c.decide_all.ensures.still
     ∙ where_ok c.put_init.result _ (sym c.is_err.ensures.value ∙ c.if-is_err.false) c.put_init.ensures.still)
-    refl c.from_vec.ensures (c.status_of.ensures ∙ ap verdict_status c.deref.ensures.value)
+    refl c.from_vec.ensures (c.status_of.ensures ∙ ap (verdict_status c.args.init) c.deref.ensures.value)

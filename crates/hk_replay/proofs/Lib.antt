@@ -1,2 +1,0 @@
-mod Coverage
-mod Never

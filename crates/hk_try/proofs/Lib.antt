@@ -1,0 +1,4 @@
+mod Firsts
+mod Trials
+mod Bits
+mod Openings

@@ -1,0 +1,34 @@
+//! Tests of the top call's `verify` over whole texts: a kernel and a specification go in, the lines that are shown and the
+//! exit status come out.
+//!
+//! They stand in a crate of their own, above the top call, so that it is not proved a second time for them. What they
+//! expect was written from the rules of the formats, and cases that are shown were found by hand: the first in the order of
+//! their numbers, low bits first, state before arguments.
+#![tactic(auto)]
+
+#[cfg(test)]
+mod calls;
+#[cfg(test)]
+mod counter_texts;
+#[cfg(test)]
+mod descriptor_texts;
+#[cfg(test)]
+mod handler_texts;
+#[cfg(test)]
+mod initial_tests;
+#[cfg(test)]
+mod initial_texts;
+#[cfg(test)]
+mod kernel_tests;
+#[cfg(test)]
+mod many_tests;
+#[cfg(test)]
+mod obligation_tests;
+#[cfg(test)]
+mod outside_tests;
+#[cfg(test)]
+mod row_tests;
+#[cfg(test)]
+mod spec_tests;
+#[cfg(test)]
+mod wide_tests;

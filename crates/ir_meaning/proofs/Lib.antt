@@ -1,4 +1,0 @@
-mod StepLemmas
-pub mod Places
-pub mod Each
-pub mod Functions

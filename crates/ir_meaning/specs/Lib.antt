@@ -1,4 +1,0 @@
-pub mod Machine
-pub mod Thin
-pub mod Answers
-pub mod View

@@ -1,6 +1,0 @@
-use Rattle.std.proofs.Common.{take, map}
-use Rattle.spec_text.specs.Firsts.{AreFirsts}
-use Rattle.spec_text.proofs.index.global_places.Given as goal
-
-abbrev pub invariant-loop-at : goal.invariant-loop-at
-invariant-loop-at l = AreFirsts l.firsts (map (λ g. g.name) (take l.at l.globals))

@@ -1,8 +1,0 @@
-//! Thin specifications: scalar `Bits(8)` fields, each equated with an `i8` global, and unconditional transitions.
-//!
-//! In come the text of a specification and the kernel that it is for, out goes its tree with every name resolved, or
-//! `S3` with a line of the text. The spelling of a thin specification is a definition in the printing direction; the
-//! reader here meets it exactly. This crate gives way to the readers of the whole specification grammar.
-#![tactic(auto)]
-
-pub mod tree;
