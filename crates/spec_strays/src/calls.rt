@@ -6,8 +6,8 @@ ghost use Rattle.spec_kernel.specs.Seen.{kernel_in};
 ghost use Rattle.spec_strays.specs.Callers.{with_call, with_calls, with_function, AreCallers};
 
 use crate::callers::Callers;
-use std::alloc::{AllocError, Global};
 use spec_kernel::KernelNames;
+use std::alloc::{AllocError, Global};
 
 /// Adds a call of the function at a place, where there is such a function.
 fn add_call(callers: &mut Callers, caller: u32, callee: Option<u32>) -> Result<(), AllocError>

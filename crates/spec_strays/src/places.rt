@@ -7,8 +7,8 @@ ghost use Rattle.spec_scope.specs.Words.{words};
 ghost use Rattle.spec_strays.specs.Places as definition;
 ghost use Rattle.spec_strays.specs.Places.{AreHooks, AreStrayPlaces};
 
-use std::alloc::{AllocError, Global};
 use spec_kernel::KernelNames;
+use std::alloc::{AllocError, Global};
 
 /// Flags the function at a place, where there is such a function.
 fn flag_place(flags: &mut Vec<bool>, hook: Option<u32>)

@@ -9,8 +9,8 @@ ghost use Rattle.spec_lines.specs.Lines.{strays_in};
 use crate::calls::callers_of;
 use crate::places::{hooked, stray_places};
 use crate::search::reached;
-use std::alloc::{AllocError, Global};
 use spec_kernel::KernelNames;
+use std::alloc::{AllocError, Global};
 
 /// For each function of a kernel, by its place: whether it comes, by calls in the text, to a declared one that is neither a listed
 /// intrinsic nor a hook. It takes time linear in the calls of the text and in the hooks, each with the look-up of its name.
