@@ -29,17 +29,15 @@ use Rattle.hk_inst.specs.Inputs.{Table, is_select, is_quantifier, AreNumbered, I
 use Rattle.hk_inst.specs.Inputs.IsNumbering.{none, step}
 use Rattle.hk_inst.specs.Demanded.{IsDemand}
 use Rattle.hk_inst.specs.Questions.{Asked, AreDemands, says}
+use Rattle.hk_inst.specs.Origins.{Arises}
 use Rattle.hk_inst.specs.Growing.{IsOurs, ids_below, IsBase, AreOpened, AreRequired, IsGrowing, IsMade, IsRequiring, AreStepped}
 use Rattle.hk_inst.proofs.Members.{numbered-are, member-at, has-behind}
-use Rattle.hk_inst.proofs.OurDemands.{demand-ours}
+use Rattle.hk_inst.proofs.OurDemands.{demand-ours, demand-arises}
 use Rattle.hk_inst.proofs.QuestionFacts.{known-within}
 use Rattle.hk_inst.proofs.Lengthening.{taken}
 use Rattle.hk_inst.proofs.Beginning.{with_numbers}
-use Rattle.hk_inst.proofs.Widening.{IsWider, demand-wider, demands-wider, mentioned-wider}
+use Rattle.hk_inst.proofs.Widening.{IsWider, demand-wider, demands-wider, mentioned-wider, arises-wider}
 use Rattle.hk_inst.proofs.GrowthSteps.{with_nodes, with_made, with_circuit, base-longer, opened-longer, required-longer, base-made, opened-made, required-made, base-requiring}
-
-abbrev pub with_instance : Asked → Instance → Asked
-with_instance q i = record q { instances = q.instances ++ i ∷ [] }
 
 abbrev pub with_added : Asked → Instance → ℕ → Asked
 with_added q i d = record q { instances = q.instances ++ i ∷ []; demands = q.demands ++ d ∷ [] }
@@ -47,8 +45,8 @@ with_added q i d = record q { instances = q.instances ++ i ∷ []; demands = q.d
 wider-instance : (q : Asked) (i : Instance) → IsWider q.nodes q.nodes q.instances (q.instances ++ i ∷ []) q.table q.table
 wider-instance q i = record { nodes_grow = grows-refl q.nodes; more_instances = λ j c. Contains-append_left q.instances (i ∷ []) j c; reads = λ k t e. e; quantifiers = λ k t e. e; openings = λ o c. c }
 
-pub base-instance : (q : Asked) (i : Instance) (first next done : ℕ) → IsBase q first next done → IsBase (with_instance q i) first next done
-base-instance q i first next done h = record {
+pub base-added : (q : Asked) (i : Instance) (x first next done : ℕ) → IsBase q first next done → IsBase (with_added q i x) first next done
+base-added q i x first next done h = record {
   fit = h.fit;
   distinct = h.distinct;
   goal_is = h.goal_is;
@@ -63,6 +61,7 @@ base-instance q i first next done h = record {
     reads = (h.ours t has).reads;
     frees = (h.ours t has).frees;
   };
+  arises = λ t has. arises-wider q.nodes q.nodes (grows-refl q.nodes) q.goal q.table.openings q.table.openings q.demands (q.demands ++ x ∷ []) (λ o c. c) (λ d c. Contains-append_left q.demands (x ∷ []) d c) t (h.arises t has);
   done_there = h.done_there;
   places = h.places;
   only = h.only;
@@ -95,23 +94,6 @@ required-added q e i d h known x r = record {
 opened-added : (q : Asked) (e : Circuit) (i : Instance) (d limit done : ℕ) → AreOpened q limit done → AreOpened (with_added (with_circuit q e) i d) limit done
 opened-added q e i d limit done h = record { opened = h.opened; openings_are = h.openings_are; once = h.once; chosen = h.chosen }
 
-base-added : (q : Asked) (d : ℕ) (first next done : ℕ) → IsBase q first next done → IsBase (record q { demands = q.demands ++ d ∷ [] }) first next done
-base-added q d first next done h = record {
-  fit = h.fit;
-  distinct = h.distinct;
-  goal_is = h.goal_is;
-  goal_first = h.goal_first;
-  first_next = h.first_next;
-  ids = h.ids;
-  circuit = h.circuit;
-  blasted = h.blasted;
-  of_goal = h.of_goal;
-  ours = h.ours;
-  done_there = h.done_there;
-  places = h.places;
-  only = h.only;
-}
-
 -- reads and quantifiers with numbers have their words
 pub reads-known : (q : Asked) → AreStepped q → (k t : ℕ) → slice_get q.table.reads k ≡ Some t → HasWord q.table.words t
 reads-known q s k t e = subst (λ ws. HasWord ws t) (sym s.steps_are) (numbered-are q.nodes is_select s.reads t (member-at q.table.reads k t e))
@@ -124,9 +106,8 @@ module _ (q : Asked) (longer : List Node) (g : Grows q.nodes longer) (c d : Circ
   pub brought : AllFitIn (reverse longer) → IsDistinct longer → AllPass (ids_below next) longer → IsDemand longer q.table i x → IsMade longer q.circuit c q.table.words words x → IsRequiring c d (word_in words x)
       → IsGrowing q first next (length q.table.words) → AreStepped q → IsGrowing (with_added (with_circuit (with_made (with_nodes q longer) c words) d) i x) first next (length q.table.words)
   brought fit distinct ids its m r h s = record {
-    base = base-added (with_circuit (with_made (with_instance (with_nodes q longer) i) c words) d) x first next (length q.table.words)
-        (base-requiring (with_made (with_instance (with_nodes q longer) i) c words) d (word_in words x) r first next (length q.table.words)
-        (base-made (with_instance (with_nodes q longer) i) c words x m first next (length q.table.words) base mine));
+    base = base-requiring (with_made (with_added (with_nodes q longer) i x) c words) d (word_in words x) r first next (length q.table.words)
+        (base-made (with_added (with_nodes q longer) i x) c words x m first next (length q.table.words) base mine from);
     opened = opened-added (with_made (with_nodes q longer) c words) d i x next (length q.table.words)
         (opened-made (with_nodes q longer) c words x m next (length q.table.words) h.base.done_there (opened-longer q longer g first next next (length q.table.words) h.base h.opened));
     required = required-added (with_made (with_nodes q longer) c words) d i x (required-made (with_nodes q longer) c words x m h.base.of_goal (required-longer q longer g h.required)) m.there
@@ -136,8 +117,12 @@ module _ (q : Asked) (longer : List Node) (g : Grows q.nodes longer) (c d : Circ
       plain : IsBase (with_nodes q longer) first next (length q.table.words)
       plain = base-longer q longer g first next next (length q.table.words) h.base fit distinct (omega arith) ids
 
-      base : IsBase (with_instance (with_nodes q longer) i) first next (length q.table.words)
-      base = base-instance (with_nodes q longer) i first next (length q.table.words) plain
+      base : IsBase (with_added (with_nodes q longer) i x) first next (length q.table.words)
+      base = base-added (with_nodes q longer) i x first next (length q.table.words) plain
+
+      from : Arises longer q.goal q.table.openings (q.demands ++ x ∷ []) x
+      from = demand-arises longer q.goal q.table (q.demands ++ x ∷ []) (HasWord q.table.words) base.arises i x (Contains-push q.demands x) its (reads-known q s)
+          (λ t array size j has at. plain.places t array size j (subst (λ ws. HasWord ws t) (sym (take-length q.table.words)) has) at) (quantifiers-known q s)
 
       same : IsWider longer longer q.instances q.instances q.table (record q.table { words = words })
       same = record { nodes_grow = grows-refl longer; more_instances = λ j e. e; reads = λ k t e. e; quantifiers = λ k t e. e; openings = λ o e. e }
@@ -195,6 +180,7 @@ growing-numbered q first next done rs qs h = record {
       reads = (h.base.ours t has).reads;
       frees = (h.base.ours t has).frees;
     };
+    arises = h.base.arises;
     done_there = h.base.done_there;
     places = h.base.places;
     only = h.base.only;

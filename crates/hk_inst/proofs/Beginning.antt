@@ -22,12 +22,14 @@ use Rattle.hk_inst.specs.Inputs.IsNumbering.{none, step}
 use Rattle.hk_inst.specs.Demanded.{IsMentioned}
 use Rattle.hk_inst.specs.Demanded.IsMentioned.{goal as its_goal, part as its_part, place as its_place, refuted as its_refuted, added as its_added}
 use Rattle.hk_inst.specs.Questions.{Asked, AreDemands, IsQuestion}
+use Rattle.hk_inst.specs.Origins.Arises.{goal as arises_goal}
+use Rattle.hk_inst.specs.Origins.{Arises}
 use Rattle.hk_inst.specs.Growing.{IsGoal, IsOurs, ids_below, IsBase, IsGrowing, IsMade, IsRequiring, AreStepped}
 use Rattle.hk_inst.specs.States.{kind_of}
 use Rattle.hk_inst.proofs.Tuples.{clash}
 use Rattle.hk_inst.proofs.Members.{numbered-all, numbered-are, numbered-kind, quantifier-node}
 use Rattle.hk_inst.proofs.WideStands.{free-below}
-use Rattle.hk_inst.proofs.OurTerms.{ours-needs}
+use Rattle.hk_inst.proofs.OurTerms.{ours-needs, arises-needs}
 use Rattle.hk_inst.proofs.GrowthSteps.{base-requiring}
 
 abbrev pub empty_circuit : Circuit
@@ -68,6 +70,10 @@ module _ (nodes : List Node) (goal : ℕ) (c d : Circuit) (words : Words) (first
       ours t (inl has) = clash (sym has)
       ours t (inr needs) = ours-needs nodes goal [] (at_start nodes goal c words).table first goal t needs own-goal
 
+      origin : (t : ℕ) → (HasWord [] t) ⊎ (Needs nodes goal t) → Arises nodes goal [] [] t
+      origin t (inl has) = clash (sym has)
+      origin t (inr needs) = arises-needs nodes goal [] [] goal t needs arises_goal
+
       base : IsBase (at_start nodes goal c words) first first 0
       base = record {
         fit = fit;
@@ -80,6 +86,7 @@ module _ (nodes : List Node) (goal : ℕ) (c d : Circuit) (words : Words) (first
         blasted = m.table;
         of_goal = m.there;
         ours = λ t has. ours t (m.only t has);
+        arises = λ t has. origin t (m.only t has);
         done_there = omega arith;
         places = λ t array size i has at. clash (sym has);
         only = λ p l e. m.inputs p (omega arith) l e;
@@ -115,6 +122,7 @@ numbered-growing q first next done reads quantifiers none_added h = record {
     blasted = h.base.blasted;
     of_goal = h.base.of_goal;
     ours = λ t has. record { mentioned = again t (h.base.ours t has).mentioned; reads = (h.base.ours t has).reads; frees = (h.base.ours t has).frees };
+    arises = h.base.arises;
     done_there = h.base.done_there;
     places = h.base.places;
     only = h.base.only;

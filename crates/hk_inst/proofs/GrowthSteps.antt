@@ -28,12 +28,13 @@ use Rattle.hk_blast.proofs.LongerLists.{blasted-longer, places-longer}
 use Rattle.hk_inst.specs.declared.opening.Opening.{Opening}
 use Rattle.hk_inst.specs.Demanded.{IsOpening}
 use Rattle.hk_inst.specs.Questions.{Asked, says, all_said, IsChosen, AreChosen}
+use Rattle.hk_inst.specs.Origins.{Arises}
 use Rattle.hk_inst.specs.Growing.{IsOurs, ids_below, IsBase, AreOpened, AreRequired, IsMade, IsRequiring}
 use Rattle.hk_inst.proofs.Tuples.{clash}
 use Rattle.hk_inst.proofs.Members.{has-head, has-cases, has-either, has-behind}
 use Rattle.hk_inst.proofs.QuestionFacts.{known-within}
-use Rattle.hk_inst.proofs.Widening.{at-older, reach-longer, free-longer, opening-longer, all-chosen-longer, IsWider, demands-wider, mentioned-wider}
-use Rattle.hk_inst.proofs.OurTerms.{ours-needs}
+use Rattle.hk_inst.proofs.Widening.{at-older, reach-longer, free-longer, opening-longer, all-chosen-longer, IsWider, demands-wider, mentioned-wider, arises-wider}
+use Rattle.hk_inst.proofs.OurTerms.{ours-needs, arises-needs}
 
 abbrev pub with_nodes : Asked → List Node → Asked
 with_nodes q nodes = record q { nodes = nodes }
@@ -72,6 +73,7 @@ module _ (q : Asked) (longer : List Node) (g : Grows q.nodes longer) where
     blasted = blasted-longer q.nodes longer q.circuit q.table.words g h.blasted;
     of_goal = h.of_goal;
     ours = ours;
+    arises = λ t has. arises-wider q.nodes longer g q.goal q.table.openings q.table.openings q.demands q.demands (λ o c. c) (λ d c. c) t (h.arises t has);
     done_there = h.done_there;
     places = λ t array size i has at. h.places t array size i has (at-older q.nodes longer g t _ (there t (front-has done q.table.words t has)) at);
     only = λ p l e. subst (λ ps. Contains ps p) (sym (places-longer q.nodes longer q.circuit q.table.words g h.blasted)) (h.only p l e);
@@ -137,8 +139,8 @@ module _ (q : Asked) (d : Circuit) (words : Words) (t : ℕ) (m : IsMade q.nodes
   front-same : (done : ℕ) → done ≤ length q.table.words → take done words ≡ take done q.table.words
   front-same done l = ap (take done) m.lengthens.is ∙ take-append-le done q.table.words m.lengthens.more l
 
-  pub base-made : (first next done : ℕ) → IsBase q first next done → IsOurs q.nodes q.goal q.instances q.table first t → IsBase (with_made q d words) first next done
-  base-made first next done h mine = record {
+  pub base-made : (first next done : ℕ) → IsBase q first next done → IsOurs q.nodes q.goal q.instances q.table first t → Arises q.nodes q.goal q.table.openings q.demands t → IsBase (with_made q d words) first next done
+  base-made first next done h mine from = record {
     fit = h.fit;
     distinct = h.distinct;
     goal_is = h.goal_is;
@@ -149,6 +151,7 @@ module _ (q : Asked) (d : Circuit) (words : Words) (t : ℕ) (m : IsMade q.nodes
     blasted = m.table;
     of_goal = known-more q.goal h.of_goal;
     ours = λ k has. wider k (by k (m.only k has));
+    arises = λ k has. origin k (m.only k has);
     done_there = omega (arith, h.done_there, ap length m.lengthens.is, length-append q.table.words m.lengthens.more);
     places = λ k array size i has at. known-more i (h.places k array size i (subst (λ ws. HasWord ws k) (front-same done h.done_there) has) at);
     only = only;
@@ -164,6 +167,10 @@ module _ (q : Asked) (d : Circuit) (words : Words) (t : ℕ) (m : IsMade q.nodes
       by : (k : ℕ) → (HasWord q.table.words k) ⊎ (Needs q.nodes t k) → IsOurs q.nodes q.goal q.instances q.table first k
       by k (inl has) = h.ours k has
       by k (inr needs) = ours-needs q.nodes q.goal q.instances q.table first t k needs mine
+
+      origin : (k : ℕ) → (HasWord q.table.words k) ⊎ (Needs q.nodes t k) → Arises q.nodes q.goal q.table.openings q.demands k
+      origin k (inl has) = h.arises k has
+      origin k (inr needs) = arises-needs q.nodes q.goal q.table.openings q.demands t k needs from
 
       only : (p : ℕ) → p < d.vars → is_output d.gates p ≡ false → Contains (input_places q.nodes words) p
       only p l e = pick (cases_lt p q.circuit.vars)
@@ -218,6 +225,7 @@ base-requiring q d clause r first next done h = record {
   blasted = grown-blasted q.nodes q.circuit d q.table.words (omega (arith, r.vars)) (λ l b v. r.keeps l v) h.blasted;
   of_goal = h.of_goal;
   ours = h.ours;
+  arises = h.arises;
   done_there = h.done_there;
   places = h.places;
   only = λ p l e. h.only p (omega (arith, l, r.vars)) (sym (ap (λ gs. is_output gs p) r.gates) ∙ e);
@@ -271,6 +279,7 @@ base-opening q o first next done h = record {
     reads = (h.ours t has).reads;
     frees = (h.ours t has).frees;
   };
+  arises = λ t has. arises-wider q.nodes q.nodes (grows-refl q.nodes) q.goal q.table.openings (q.table.openings ++ o ∷ []) q.demands q.demands (λ p c. Contains-append_left q.table.openings (o ∷ []) p c) (λ d c. c) t (h.arises t has);
   done_there = h.done_there;
   places = h.places;
   only = h.only;
@@ -308,6 +317,7 @@ base-done q first next done e at place h = record {
   blasted = h.blasted;
   of_goal = h.of_goal;
   ours = h.ours;
+  arises = h.arises;
   done_there = let l = slice_get_within q.table.words done e at in omega (arith, l);
   places = λ t array size i has node. by t array size i node (next-cases q.table.words done e at t has);
   only = h.only;

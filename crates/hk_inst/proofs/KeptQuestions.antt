@@ -11,6 +11,7 @@ use Rattle.hk_inst.specs.Truths.{IsTrue, is_among}
 use Rattle.hk_inst.specs.Exactness.{Exact}
 use Rattle.hk_inst.specs.Questions.{Asked}
 use Rattle.hk_inst.specs.Growing.{IsGrowing, AreStepped}
+use Rattle.hk_inst.specs.Left.{AreOnce}
 use Rattle.hk_inst.specs.Adding.{Lengthened}
 use Rattle.hk_inst.specs.States.{asked_of, IsKept}
 use Rattle.hk_blast.specs.Blasted.{HasWord}
@@ -59,7 +60,7 @@ KeptAs q first next = (IsGrowing q first next (length q.table.words)) × (AreSte
 pub kept-back : (s t : State) → asked_of t ≡ asked_of s → t.first ≡ s.first → t.next ≡ s.next → IsKept s → IsKept t
 kept-back s t e f g k =
     let r : KeptAs (asked_of t) t.first t.next = subst (λ (z : Asked × ℕ × ℕ). KeptAs z.0 z.1 z.2) (λ n. (sym e n, sym f n, sym g n)) (k.growing, k.stepped) in
-    record { growing = r.0; stepped = r.1 }
+    record { growing = r.0; stepped = r.1; once = subst (λ (q : Asked). AreOnce q.instances) (sym e) k.once }
 
 -- a longer question asks the same
 pub same-goal : (p q : Asked) → Lengthened p q → p.goal < length p.nodes → (v : Reading) → value q.nodes q.goal v ≡ value p.nodes p.goal v

@@ -31,3 +31,11 @@ pub mod AddedPairs
 pub mod ViolatedCases
 pub mod SameInstances
 pub mod LaterNames
+pub mod Counting
+pub mod Expansions
+pub mod Origination
+pub mod SameOnes
+pub mod FewCopies
+pub mod ApartNumbers
+pub mod Room
+pub mod InstancesLeft

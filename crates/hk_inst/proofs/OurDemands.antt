@@ -18,6 +18,8 @@ use Rattle.hk_inst.specs.Inputs.{Table}
 use Rattle.hk_inst.specs.Truths.{IsTuple}
 use Rattle.hk_inst.specs.Demanded.{IsAgreement, IsImplication, IsDemand}
 use Rattle.hk_inst.specs.Demanded.IsMentioned.{added as its_added}
+use Rattle.hk_inst.specs.Origins.{Arises}
+use Rattle.hk_inst.specs.Origins.Arises.{agreed as arises_agreed, implied as arises_implied}
 use Rattle.hk_inst.specs.Growing.{IsOurs}
 use Rattle.hk_inst.proofs.OurTerms.{reach-cases, free-cases, not-bound}
 use Rattle.hk_inst.proofs.Subjects.{tuple-length, no-other}
@@ -104,3 +106,16 @@ module _ (nodes : List Node) (goal : ℕ) (instances : List Instance) (table : T
       let t = plain q.term (quantifiers k q.term q.at) in
       let all : IsPlain nodes goal first d = plain-implication nodes goal first q.term h.1 d h.3 t (plain-body nodes goal first q.term h.1 q.bound q.body ks q.is q.fits h.2 t) in
       record { mentioned = its_added (Tuple k ks) d c h; reads = all.0; frees = all.1 }
+
+-- and it arises
+pub demand-arises : (nodes : List Node) (goal : ℕ) (table : Table) (demands : List ℕ) (known : ℕ → Type 0) → ((t : ℕ) → known t → Arises nodes goal table.openings demands t) → (i : Instance) (d : ℕ) → Contains demands d → IsDemand nodes table i d
+    → ((k t : ℕ) → slice_get table.reads k ≡ Some t → known t) → ((t array size i : ℕ) → known t → slice_get nodes t ≡ Some (Select array size i) → known i) → ((k t : ℕ) → slice_get table.quantifiers k ≡ Some t → known t)
+    → Arises nodes goal table.openings demands d
+demand-arises nodes goal table demands known arises (Pair a b) d c h reads places quantifiers =
+    let p = h.0 in
+    let r = reads a p.first p.first_at in
+    let s = reads b p.second p.second_at in
+    arises_agreed p.first p.second p.place p.other_place d c h.1 (arises p.first r) (arises p.second s) (arises p.place (places p.first p.array p.size p.place r p.first_is)) (arises p.other_place (places p.second p.array p.other_size p.other_place s p.second_is))
+demand-arises nodes goal table demands known arises (Tuple k ks) d c h reads places quantifiers =
+    let q = h.0 in
+    arises_implied q.term h.1 q.body d q.bound c h.3 q.is (arises q.term (quantifiers k q.term q.at))

@@ -25,6 +25,8 @@ use Rattle.hk_inst.specs.Demanded.{IsRefutation, IsOpening}
 use Rattle.hk_inst.specs.Demanded.IsRefutation.{ended, ranged}
 use Rattle.hk_inst.specs.Demanded.IsMentioned.{part as its_part, place as its_place, refuted as its_refuted}
 use Rattle.hk_inst.specs.Questions.{AreVariables}
+use Rattle.hk_inst.specs.Origins.{Arises}
+use Rattle.hk_inst.specs.Origins.Arises.{part as arises_part}
 use Rattle.hk_inst.specs.Growing.{IsOurs}
 
 -- ---- what a term reaches, by its node
@@ -78,6 +80,11 @@ module _ (nodes : List Node) (goal : ℕ) (instances : List Instance) (table : T
   pub ours-needs : (t k : ℕ) → Needs nodes t k → IsOurs nodes goal instances table first t → IsOurs nodes goal instances table first k
   ours-needs t _ needs_own h = h
   ours-needs t _ (needs_part u k n needs at part) h = ours-part u k n at part (ours-needs t u needs h)
+
+-- what an arising term needs arises
+pub arises-needs : (nodes : List Node) (goal : ℕ) (openings : List Opening) (demands : List ℕ) (t k : ℕ) → Needs nodes t k → Arises nodes goal openings demands t → Arises nodes goal openings demands k
+arises-needs nodes goal openings demands t _ needs_own h = h
+arises-needs nodes goal openings demands t _ (needs_part u k n needs at part) h = arises_part u k n at part (arises-needs nodes goal openings demands t u needs h)
 
 -- ---- the term that is required of a quantifier
 

@@ -1,5 +1,5 @@
 -- One entry of the table after another.
-use Rattle.std.proofs.Common.{◌≡◌, ℕ, zero, suc, ◌+◌, ◌<◌, ◌≤◌, false, List, [], ◌∷◌, length, take, reverse, ℤ, Some, refl, sym, ◌∙◌, ap, subst, get_or}
+use Rattle.std.proofs.Common.{◌≡◌, ℕ, zero, suc, ◌+◌, ◌<◌, ◌≤◌, ◌++◌, false, List, [], ◌∷◌, length, take, reverse, ℤ, Some, refl, sym, ◌∙◌, ap, subst, get_or}
 use Rattle.std.specs.Prelude.{slice_get}
 use Rattle.std.specs.List.{All, Contains}
 use Rattle.std.proofs.lemmas.Bool.{ltb-true}
@@ -18,6 +18,8 @@ use Rattle.hk_inst.specs.declared.opening.Opening.{Opening}
 use Rattle.hk_inst.specs.Inputs.{is_select, is_quantifier}
 use Rattle.hk_inst.specs.Demanded.{IsOpening}
 use Rattle.hk_inst.specs.Questions.{Asked, AreVariables, IsChosen}
+use Rattle.hk_inst.specs.Origins.{Arises}
+use Rattle.hk_inst.specs.Origins.Arises.{place as arises_place, refuted as arises_refuted}
 use Rattle.hk_inst.specs.Growing.{IsOurs, ids_below, IsBase, AreOpened, IsGrowing, IsMade, IsRequiring}
 use Rattle.hk_inst.proofs.Tuples.{clash}
 use Rattle.hk_inst.proofs.Members.{has-head, has-behind, index_of}
@@ -46,7 +48,8 @@ pub placed : (q : Asked) (d : Circuit) (words : Words) (first next done : ℕ) (
     → IsGrowing q first next done → IsGrowing (with_made q d words) first next (done + 1)
 placed q d words first next done e array size i at node m h = record {
   base = base-done (with_made q d words) first next done e there (λ a s j other. subst (HasWord words) (ap index_of (sym node ∙ other)) m.there)
-      (base-made q d words i m first next done h.base (ours-place q.nodes q.goal q.instances q.table first e.0 array size i node (h.base.ours e.0 (entry-known q.table.words done e at))));
+      (base-made q d words i m first next done h.base (ours-place q.nodes q.goal q.instances q.table first e.0 array size i node (h.base.ours e.0 (entry-known q.table.words done e at)))
+      (arises_place e.0 array size i node (h.base.arises e.0 (entry-known q.table.words done e at))));
   opened = opened-passed (with_made q d words) next done e there (λ inner bound other. clash (sym (ap is_quantifier other) ∙ ap is_quantifier node)) (opened-made q d words i m next done h.base.done_there h.opened);
   required = required-made q d words i m h.base.of_goal h.required;
 }
@@ -70,7 +73,7 @@ module _ (q : Asked) (longer : List Node) (g : Grows q.nodes longer) (c d : Circ
   opened at node term variables its le fit distinct ids m r h = record {
     base = base-done (with_opening (with_circuit (with_made (with_nodes q longer) c words) d) o) first more done e there (λ a s j other. clash (sym (ap is_select other) ∙ ap is_select node-there))
         (base-requiring (with_made (with_opening (with_nodes q longer) o) c words) d (word_in words o.demand) r first more done
-        (base-made (with_opening (with_nodes q longer) o) c words o.demand m first more done (base-opening (with_nodes q longer) o first more done base) mine));
+        (base-made (with_opening (with_nodes q longer) o) c words o.demand m first more done (base-opening (with_nodes q longer) o first more done base) mine from));
     opened = opened-circuit (with_opening (with_made (with_nodes q longer) c words) o) d more (done + 1)
         (opened-more (with_made (with_nodes q longer) c words) next more done e o there term missing its (chosen-of longer q.goal more (reverse q.table.openings) o (length q.nodes) next (length-longer q.nodes longer g) (within q.goal h.base.of_goal) (subst (λ t. t < length q.nodes) (sym term) (within e.0 known)) earlier (λ k size id l other. ltb-true id next (h.base.ids k _ (at-older q.nodes longer g k _ l other))) variables) refl (opened-made (with_nodes q longer) c words o.demand m next done h.base.done_there (opened-longer q longer g first next next done h.base h.opened)));
     required = required-opened (with_made (with_nodes q longer) c words) d o (required-made (with_nodes q longer) c words o.demand m h.base.of_goal (required-longer q longer g h.required)) m.there r;
@@ -96,6 +99,9 @@ module _ (q : Asked) (longer : List Node) (g : Grows q.nodes longer) (c d : Circ
 
       mine : IsOurs longer q.goal q.instances (with_opening (with_nodes q longer) o).table first o.demand
       mine = opening-ours longer q.goal q.instances (with_opening (with_nodes q longer) o).table first next more o its (Contains-push q.table.openings o) variables h.base.first_next its-term
+
+      from : Arises longer q.goal (q.table.openings ++ o ∷ []) q.demands o.demand
+      from = arises_refuted o (Contains-push q.table.openings o) (subst (Arises longer q.goal (q.table.openings ++ o ∷ []) q.demands) (sym term) ((base-opening (with_nodes q longer) o first more done base).arises e.0 known))
 
       within : (t : ℕ) → HasWord q.table.words t → t < length q.nodes
       within = known-within q.nodes q.circuit q.table.words h.base.blasted

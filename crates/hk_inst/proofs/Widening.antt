@@ -24,6 +24,8 @@ use Rattle.hk_inst.specs.Demanded.{IsAgreement, IsImplication, IsRefutation, IsO
 use Rattle.hk_inst.specs.Demanded.IsRefutation.{ended, ranged}
 use Rattle.hk_inst.specs.Demanded.IsMentioned.{goal as its_goal, part as its_part, place as its_place, refuted as its_refuted, added as its_added}
 use Rattle.hk_inst.specs.Questions.{AreDemands, IsChosen, AreChosen}
+use Rattle.hk_inst.specs.Origins.{Arises}
+use Rattle.hk_inst.specs.Origins.Arises.{goal as the_goal, part as a_part, place as a_place, refuted as a_refuted, agreed as an_agreed, implied as an_implied}
 
 module _ (old new : List Node) (g : Grows old new) where
   pub at-longer : (k : ℕ) (n : Node) → slice_get old k ≡ Some n → slice_get new k ≡ Some n
@@ -97,6 +99,16 @@ module _ (old new : List Node) (g : Grows old new) where
   unfolding chosen-longer
   all-chosen-longer goal limit [] h = tt
   all-chosen-longer goal limit (o ∷ os) h = (chosen-longer goal limit os o h.0, all-chosen-longer goal h.0.first os h.1)
+
+  -- what arises still does, with more quantifiers and more required terms
+  pub arises-wider : (goal : ℕ) (os wider : List Opening) (ds more : List ℕ) → ((o : Opening) → Contains os o → Contains wider o) → ((d : ℕ) → Contains ds d → Contains more d) → (t : ℕ) → Arises old goal os ds t → Arises new goal wider more t
+  arises-wider goal os wider ds more f h _ the_goal = the_goal
+  arises-wider goal os wider ds more f h t (a_part u k n at part a) = a_part u k n (at-longer u n at) part (arises-wider goal os wider ds more f h u a)
+  arises-wider goal os wider ds more f h t (a_place u array size i at a) = a_place u array size i (at-longer u _ at) (arises-wider goal os wider ds more f h u a)
+  arises-wider goal os wider ds more f h t (a_refuted o c a) = a_refuted o (f o c) (arises-wider goal os wider ds more f h o.term a)
+  arises-wider goal os wider ds more f h t (an_agreed r s i j d c its a b x y) =
+      an_agreed r s i j d (h d c) (agreement-longer r s i j d its) (arises-wider goal os wider ds more f h r a) (arises-wider goal os wider ds more f h s b) (arises-wider goal os wider ds more f h i x) (arises-wider goal os wider ds more f h j y)
+  arises-wider goal os wider ds more f h t (an_implied q b body d bound c its at a) = an_implied q b body d bound (h d c) (implication-longer q b d its) (at-longer q _ at) (arises-wider goal os wider ds more f h q a)
 
 -- a longer term list, more instances, and a table with more at its end
 pub record IsWider (nodes longer : List Node) (instances more : List Instance) (table wider : Table) : Type 0 where

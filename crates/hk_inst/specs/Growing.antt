@@ -19,6 +19,7 @@ use Rattle.hk_inst.specs.declared.opening.Opening.{Opening}
 use Rattle.hk_inst.specs.Inputs.{Table, is_select, is_quantifier, IsNumbering}
 use Rattle.hk_inst.specs.Demanded.{IsOpening, IsMentioned}
 use Rattle.hk_inst.specs.Questions.{Asked, AreDemands, all_said, AreChosen}
+use Rattle.hk_inst.specs.Origins.{Arises}
 
 -- what is asked of a goal: it is a truth value, each of its free variables has one width, and each array is read at one width
 pub record IsGoal (nodes : List Node) (goal : ℕ) : Type 0 where
@@ -48,6 +49,7 @@ pub record IsBase (q : Asked) (first next done : ℕ) : Type 0 where
   pub blasted : AreBlasted q.nodes q.circuit q.table.words
   pub of_goal : HasWord q.table.words q.goal
   pub ours : (t : ℕ) → HasWord q.table.words t → IsOurs q.nodes q.goal q.instances q.table first t
+  pub arises : (t : ℕ) → HasWord q.table.words t → Arises q.nodes q.goal q.table.openings q.demands t
   pub done_there : done ≤ length q.table.words
   pub places : (t array size i : ℕ) → HasWord (take done q.table.words) t → slice_get q.nodes t ≡ Some (Select array size i) → HasWord q.table.words i
   pub only : (p : ℕ) → p < q.circuit.vars → is_output q.circuit.gates p ≡ false → Contains (input_places q.nodes q.table.words) p

@@ -5,6 +5,8 @@ pub mod Adding
 pub mod Demanded
 pub mod Exactness
 pub mod Questions
+pub mod Origins
+pub mod Left
 pub mod Growing
 pub mod States
 pub mod Violations

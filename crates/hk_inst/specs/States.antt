@@ -8,6 +8,7 @@ use Rattle.hk_inst.specs.declared.growth.Task.TheVariants.{Place, Open, Nothing}
 use Rattle.hk_inst.specs.Inputs.{is_select, is_quantifier}
 use Rattle.hk_inst.specs.Questions.{Asked}
 use Rattle.hk_inst.specs.Growing.{IsGrowing, AreStepped}
+use Rattle.hk_inst.specs.Left.{AreOnce}
 
 abbrev pub asked_of : State → Asked
 asked_of s = record {
@@ -19,10 +20,11 @@ asked_of s = record {
   demands = s.demands.items;
 }
 
--- a question's parts, between its calls: all entries are done, and reads and quantifiers have their numbers
+-- a question's parts, between its calls: all entries are done, reads and quantifiers have their numbers, and no instance is there twice
 pub record IsKept (s : State) : Type 0 where
   pub growing : IsGrowing (asked_of s) s.first s.next (length s.bits)
   pub stepped : AreStepped (asked_of s)
+  pub once : AreOnce s.instances
 
 -- what is to be done for an entry of the table: the place of a read comes in, a quantifier is opened, or nothing
 abbrev pub IsTask : List Node → ℕ → Task → Type 0

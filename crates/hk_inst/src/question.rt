@@ -1,6 +1,6 @@
 //! Questions.
 
-ghost use Rattle.std.specs.Prelude.{◌≡◌, ◌<◌, ◌++◌, ◌∷◌, [], false, true, nat_eq, length, All, IfOk, IfErr, OnOk, OnErr};
+ghost use Rattle.std.specs.Prelude.{◌≡◌, ◌<◌, ◌≤◌, ◌++◌, ◌∷◌, [], false, true, nat_eq, length, All, IfOk, IfErr, OnOk, OnErr};
 ghost use Rattle.hk_term.specs.Meaning.{Reading, reading_of, value};
 ghost use Rattle.hk_cnf.specs.Clauses.{clauses_value};
 ghost use Rattle.hk_inst.specs.declared.instance.Instance.{Instance};
@@ -10,6 +10,7 @@ ghost use Rattle.hk_inst.specs.Exactness.{Exact};
 ghost use Rattle.hk_inst.specs.Growing.{IsGoal};
 ghost use Rattle.hk_inst.specs.Adding.{IsFault, Lengthened};
 ghost use Rattle.hk_inst.specs.Violations.{IsViolated};
+ghost use Rattle.hk_inst.specs.Left.{room, left};
 
 use crate::adding::add;
 use crate::completion::completion;
@@ -52,6 +53,7 @@ impl Question {
         ensures instances { IfOk result (λ q. q.instances ≡ []) }
         ensures goal { IfOk result (λ q. (v : Reading) → value q.nodes q.goal v ≡ value terms goal v) }
         ensures exact { IfOk result (λ q. Exact (λ v. nat_eq (value terms goal v) 1) [] (record { vars = q.circuit.vars; clauses = q.circuit.clauses })) }
+        ensures left { IfOk result (λ q. left q ≡ room terms goal) }
     {
         let state = made(alloc, terms, goal)?;
         Ok(Question { state })
@@ -72,11 +74,20 @@ impl Question {
         self.state.instances.list()
     }
 
+    /// How many instances were added: they are finite in number, since the goal has room for so many.
+    pub fn instance_count(&self) -> usize
+        ensures count { result ≡ length self.now.instances }
+        ensures room { result ≤ room self.now.nodes self.now.goal }
+    {
+        self.state.instances.len()
+    }
+
     /// Adds an instance: the clauses are exact for the goal and the instances with this one behind the others. What stood
     /// before, clauses and numbers of reads and quantifiers among it, stays at the front; reads and quantifiers that come in
     /// are numbered behind it. An instance that was added before changes nothing, and neither does one that is refused, be
     /// it for its numbers or for want of memory. It takes the time of what comes in: neither the instances nor the table are
-    /// gone through.
+    /// gone through. Each instance that comes in lowers the number of those that are left, and no call
+    /// raises it: rounds of solving and adding end.
     pub fn add(&mut self, alloc: Global, instance: Instance) -> Result<(), AddFault>
         ensures names { OnOk result (IsInstance self.old.nodes self.old.table instance) }
         ensures fault { IfErr result (λ f. IsFault self.old.nodes self.old.table instance f) }
@@ -86,6 +97,8 @@ impl Question {
         ensures front { Lengthened self.old self.new }
         ensures goal { (v : Reading) → value self.new.nodes self.new.goal v ≡ value self.old.nodes self.old.goal v }
         ensures exact { Exact (λ v. nat_eq (value self.old.nodes self.old.goal v) 1) self.new.instances (record { vars = self.new.circuit.vars; clauses = self.new.circuit.clauses }) }
+        ensures left { OnOk result (is_among self.old.instances instance ≡ false → left self.new < left self.old) }
+        ensures left_no_more { left self.new ≤ left self.old }
     {
         let done = add(alloc, &mut self.state, instance);
         done

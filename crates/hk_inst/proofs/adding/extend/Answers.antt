@@ -1,9 +1,11 @@
-use Rattle.std.proofs.Common.{◌++◌, ◌∙◌, ap}
+use Rattle.std.proofs.Common.{◌++◌, ◌∙◌, ap, sym, subst}
 use Rattle.hk_inst.specs.States.{asked_of}
 use Rattle.hk_inst.proofs.QuestionFacts.{known-within}
 use Rattle.hk_inst.proofs.Beginning.{reads-numbered, quantifiers-numbered}
 use Rattle.hk_inst.proofs.Lengthening.{lengthened-refl, longer-refl, nothing-more, beside, longer-length}
 use Rattle.hk_inst.proofs.AddedSteps.{kept-more}
+use Rattle.hk_inst.specs.Left.{AreOnce}
+use Rattle.hk_inst.proofs.SameOnes.{once-push}
 use Rattle.hk_inst.proofs.adding.extend.Goals as goal
 
 pub numbered-requires-clause-start : goal.numbered-requires-clause-start
@@ -37,4 +39,8 @@ returns-clause-kept c =
     (c.close.ensures.reads ∙ c.bring.ensures.reads) (c.close.ensures.quantifiers ∙ c.bring.ensures.quantifiers) (c.close.ensures.instances ∙ c.in_ok-bring.ensures.instances) c.in_ok-close.ensures.growing
     (reads-numbered c.close.new.s.terms _ c.in_ok-reads.reads.items c.in_ok-reads.ensures) (quantifiers-numbered c.close.new.s.terms _ c.in_ok-quantifiers.quantifiers.items c.in_ok-quantifiers.ensures)
     (c.in_ok-extend_from_slice.ensures.items ∙ ap (λ l. c.close.new.s.reads.items ++ l) c.deref.ensures.value) (c.in_ok-extend_from_slice-2.ensures.items ∙ ap (λ l. c.close.new.s.quantifiers.items ++ l) c.deref-2.ensures.value) in
-    record { growing = k.0; stepped = k.1 }
+    record {
+      growing = k.0;
+      stepped = k.1;
+      once = subst AreOnce (sym (c.close.ensures.instances ∙ c.in_ok-bring.ensures.instances)) (once-push c.args.s.now.instances c.args.instance c.requires.kept.once c.requires.fresh);
+    }

@@ -1,4 +1,6 @@
-use Rattle.std.proofs.Common.{Bool, nat_eq, List, ap, ◌∙◌, subst}
+use Rattle.std.proofs.Common.{Bool, nat_eq, List, length, ap, ◌∙◌, subst, arith}
+use Rattle.hk_inst.specs.Left.{room}
+use Rattle.hk_inst.proofs.InstancesLeft.{same-room}
 use Rattle.hk_term.specs.Meaning.{Reading, value}
 use Rattle.hk_copy.proofs.StepLaws.{longer-value}
 use Rattle.hk_inst.specs.declared.instance.Instance.{Instance}
@@ -18,3 +20,8 @@ returns-clause-exact c =
     let k = c.in_ok-state.ensures.kept in
     subst (λ (z : (Reading → Bool) × List Instance). Exact z.0 z.1 (record { vars = s.gates.vars; clauses = s.gates.clauses })) (λ i. (λ v. nat_eq (returns-clause-goal c v i) 1, c.in_ok-state.ensures.instances i))
     (exact (asked_of s) (question-of (asked_of s) s.first s.next k.growing k.stepped))
+
+pub returns-clause-left : goal.returns-clause-left
+returns-clause-left c =
+    let s = c.in_ok-state.state in
+    omega (arith, ap (room s.terms) c.in_ok-state.ensures.goal, same-room c.args.terms s.terms c.args.goal c.in_ok-state.ensures.terms c.requires.there, ap length c.in_ok-state.ensures.instances)
