@@ -1,5 +1,5 @@
 -- What settling a question comes to.
-use Rattle.std.specs.Prelude.{◌≡◌, ℕ, Bool, nat_eq, List, length, None}
+use Rattle.std.specs.Prelude.{◌≡◌, ℕ, ◌+◌, ◌≤◌, Bool, nat_eq, List, length, None}
 use Rattle.hk_term.specs.Meaning.{Reading, reading_of, value}
 use Rattle.hk_term.specs.declared.valuation.Valuation.{Valuation}
 use Rattle.hk_cnf.specs.Clauses.{Clauses, IsUnsatisfiable}
@@ -56,6 +56,11 @@ abbrev pub Counts : Figures → Settled → Type 0
 Counts f (Refuted instances log) = f.instances ≡ length instances
 Counts f (True valuation) = Unit {0}
 Counts f (Spent instances clauses log) = (f.instances ≡ length instances) × (f.clauses ≡ length clauses.clauses) × (f.vars ≡ clauses.vars)
+
+-- from so many instances on each round but the last brought in at least one
+pub record AreRounds (instances : ℕ) (f : Figures) : Type 0 where
+  pub some : 1 ≤ f.rounds
+  pub each : instances + f.rounds ≤ f.instances + 1
 
 -- what holds of the log that refutes, of the valuation, and of the spent log of the last round
 abbrev pub OnRefuted : (List LratRow → Type 0) → End → Type 0

@@ -14,7 +14,9 @@ pub enum Settled {
         log: LratLog,
     },
     /// The goal is true under this valuation.
-    True { valuation: Valuation },
+    True {
+        valuation: Valuation,
+    },
     /// The budget is spent. The clauses are exact for the goal and these instances, and the last additions of the log, as many
     /// as the budget, are each a clause that unit propagation did not give before.
     Spent {

@@ -1,12 +1,12 @@
 //! Rounds: the solver solves, an assignment is completed to a case, and the instances that it violates come in.
 
-ghost use Rattle.std.specs.Prelude.{◌≡◌, ◌≤◌, ◌↔◌, [], All, IfOk, IfSome, IfNone, IsTrue};
+ghost use Rattle.std.specs.Prelude.{◌≡◌, ◌<◌, ◌≤◌, ◌↔◌, ◌++◌, ◌∷◌, [], false, length, All, IfOk, OnOk, IfSome, IfNone, IsTrue};
 ghost use Rattle.hk_term.specs.Meaning.{Reading, reading_of, value};
 ghost use Rattle.hk_cdcl.specs.Fresh.{IsSpent};
-ghost use Rattle.hk_inst.specs.Truths.{IsInstance};
+ghost use Rattle.hk_inst.specs.Truths.{IsInstance, is_among};
 ghost use Rattle.hk_inst.specs.Exactness.{Exact};
 ghost use Rattle.hk_inst.specs.Adding.{IsLonger, Lengthened};
-ghost use Rattle.hk_settle.specs.Answers.{goal_test, clauses_of, figures_after, IsRefuted, Refuting, OnRefuted, OnTrue, OnSpent, IfRefuted, IfTrue, IfSpent, Counts};
+ghost use Rattle.hk_settle.specs.Answers.{goal_test, clauses_of, figures_after, AreRounds, IsRefuted, Refuting, OnRefuted, OnTrue, OnSpent, IfRefuted, IfTrue, IfSpent, Counts};
 
 use crate::answers::{End, Figures, Settled, Settlement};
 use hk_cdcl::{SolveEnd, Solver};
@@ -16,6 +16,7 @@ use std::alloc::{AllocError, Global};
 // Adds an instance that names what it speaks of, so that it is refused for want of memory alone.
 fn bring(alloc: Global, question: &mut Question, instance: Instance) -> Result<(), AllocError>
     requires { IsInstance question.old.nodes question.old.table instance }
+    ensures added { OnOk result (is_among question.old.instances instance ≡ false → question.new.instances ≡ question.old.instances ++ instance ∷ []) }
     ensures front { Lengthened question.old question.new }
     ensures goal { (v : Reading) → value question.new.nodes question.new.goal v ≡ value question.old.nodes question.old.goal v }
 {
@@ -27,12 +28,10 @@ fn bring(alloc: Global, question: &mut Question, instance: Instance) -> Result<(
 }
 
 // Adds the instances of one round.
-fn bring_all(
-    alloc: Global,
-    question: &mut Question,
-    found: &InstanceList,
-) -> Result<(), AllocError>
-    requires { All (IsInstance question.old.nodes question.old.table) found.now }
+fn bring_all(alloc: Global, question: &mut Question, found: &InstanceList) -> Result<(), AllocError>
+    requires named { All (IsInstance question.old.nodes question.old.table) found.now }
+    requires fresh { All (λ i. is_among question.old.instances i ≡ false) found.now }
+    ensures more { OnOk result (0 < length found.now → length question.old.instances < length question.new.instances) }
     ensures front { Lengthened question.old question.new }
     ensures goal { (v : Reading) → value question.new.nodes question.new.goal v ≡ value question.old.nodes question.old.goal v }
 {
@@ -66,6 +65,8 @@ fn round(
     ensures holds { IfOk result (λ end. IfSome end (OnTrue (λ v. value question.new.nodes question.new.goal (reading_of v) ≡ 1))) }
     ensures spent { IfOk result (λ end. IfSome end (OnSpent (λ log. IsSpent (clauses_of question.new) log budget))) }
     ensures list { IfOk result (λ end. IfNone end (solver.new.list ≡ clauses_of question.new)) }
+    ensures more { IfOk result (λ end. IfNone end (length question.old.instances < length question.new.instances)) }
+    ensures no_fewer { length question.old.instances ≤ length question.new.instances }
     ensures goal { (v : Reading) → value question.new.nodes question.new.goal v ≡ value question.old.nodes question.old.goal v }
 {
     match solver.solve(alloc, budget)? {
@@ -109,6 +110,7 @@ fn repeat(
     ensures holds { IfOk result (λ r. OnTrue (λ v. value question.new.nodes question.new.goal (reading_of v) ≡ 1) r.0) }
     ensures spent { IfOk result (λ r. OnSpent (λ log. IsSpent (clauses_of question.new) log budget) r.0) }
     ensures figures { IfOk result (λ r. r.1 ≡ figures_after question.new r.1.rounds) }
+    ensures rounds { IfOk result (λ r. AreRounds (length question.old.instances) r.1) }
     ensures goal { (v : Reading) → value question.new.nodes question.new.goal v ≡ value question.old.nodes question.old.goal v }
 {
     'more: for before in 0..u64::MAX {
@@ -121,16 +123,13 @@ fn repeat(
 }
 
 // All rounds, with a new solver.
-fn decide(
-    alloc: Global,
-    question: &mut Question,
-    budget: u64,
-) -> Result<(End, Figures), AllocError>
+fn decide(alloc: Global, question: &mut Question, budget: u64) -> Result<(End, Figures), AllocError>
     requires { 1 ≤ budget }
     ensures refuted { IfOk result (λ r. OnRefuted (Refuting (clauses_of question.new)) r.0) }
     ensures holds { IfOk result (λ r. OnTrue (λ v. value question.new.nodes question.new.goal (reading_of v) ≡ 1) r.0) }
     ensures spent { IfOk result (λ r. OnSpent (λ log. IsSpent (clauses_of question.new) log budget) r.0) }
     ensures figures { IfOk result (λ r. r.1 ≡ figures_after question.new r.1.rounds) }
+    ensures rounds { IfOk result (λ r. AreRounds (length question.old.instances) r.1) }
     ensures goal { (v : Reading) → value question.new.nodes question.new.goal v ≡ value question.old.nodes question.old.goal v }
 {
     let mut solver = Solver::new(alloc, question.clauses())?;
@@ -150,6 +149,7 @@ pub fn settle_with_figures(
     ensures exact { IfOk result (λ s. IfSpent (λ instances clauses _. Exact (goal_test question) instances clauses) s.settled) }
     ensures spent { IfOk result (λ s. IfSpent (λ _ clauses log. IsSpent clauses log budget) s.settled) }
     ensures figures { IfOk result (λ s. Counts s.figures s.settled) }
+    ensures rounds { IfOk result (λ s. AreRounds (length question.instances) s.figures) }
 {
     let mut question = question;
     let ended = decide(alloc, &mut question, budget);
