@@ -1,0 +1,7 @@
+//! Questions with answers that were found by hand, settled. Stands on the deciding loop and on the constructors of terms.
+#![tactic(auto)]
+
+#[cfg(test)]
+mod goals;
+#[cfg(test)]
+mod settling_tests;
