@@ -1,0 +1,17 @@
+pub mod RegisterKinds
+pub mod Standing
+pub mod Using
+pub mod Keeping
+pub mod Computing
+pub mod Storing
+pub mod BlockNames
+pub mod Heads
+pub mod Jumping
+pub mod Branching
+pub mod Returning
+pub mod Entering
+pub mod Listed
+pub mod Declared
+pub mod Calling
+pub mod NeverLost
+pub mod WholeRuns
