@@ -6,11 +6,10 @@ use Rattle.std.proofs.lemmas.Bool.{cases_Bool, eqb-true, eq-eqb}
 use Rattle.std.proofs.lemmas.List.{append-nil, length-map}
 use Rattle.std.proofs.lemmas.List.Elements.{Contains-append_right, Contains-append_cases}
 use Rattle.std.proofs.lemmas.Slice.Eq.{bytes_eq-Decides}
-use Rattle.ir_ast.specs.Plain.{Ty, Val}
+use Rattle.ir_ast.specs.Plain.{Val}
 use Rattle.ir_ast.specs.Program as plain
 use Rattle.ir_ast.specs.Program.{Act, InstrView, BlockView, FunctionView, ModuleView}
 use Rattle.ir_ast.specs.Table.{names_of, place_of}
-use Rattle.hk_graph.specs.Walks.{Walks}
 use Rattle.ir_type.specs.Names.{entry_of, globals_in}
 use Rattle.ir_type.specs.Rows.{used, values, targets, arm_blocks}
 use Rattle.ir_type.specs.Shape.{is_last, Ends}
@@ -21,21 +20,17 @@ use Rattle.ir_typing.specs.Registers.{blocks_of, block_of, registers_of}
 use Rattle.ir_typing.specs.Fits.{is_phi}
 use Rattle.ir_check.specs.Graphs.{named, named_blocks}
 use Rattle.ir_check.specs.Paths.{HasEdge, instrs_of, targets_of}
-use Rattle.ir_check.specs.Arms.{times, MeetsCounts}
+use Rattle.ir_check.specs.Arms.{MeetsCounts}
 use Rattle.ir_check.proofs.BlockOrders as orders
 use Rattle.ir_check.proofs.EdgeLaws.{block_entry}
-use Rattle.ir_check.proofs.SiteLaws.{contains_at}
 use Rattle.ir_check.proofs.TallyLaws.{count-cons}
 use Rattle.ir_check.proofs.Undefined.{in_flat_map}
 use Rattle.ir_check.proofs.UseLaws.{block_at}
-use Rattle.ir_code.specs.declared.act.Arm.{Arm}
-use Rattle.ir_code.specs.declared.input.Input.{Input}
 use Rattle.ir_machine.specs.Step.{arm_from}
 use Rattle.ir_resolve.specs.Operands.{input_of}
-use Rattle.ir_resolve.specs.Acts.{block_place, arm_of, arms_of}
+use Rattle.ir_resolve.specs.Acts.{block_place, arms_of}
 use Rattle.ir_kernel.proofs.CodePlaces.{IsBody, blocks_differ}
 use Rattle.ir_kernel.proofs.LoadTypes.{left_of, right_of}
-use Rattle.ir_typed.proofs.Standing.{one_longer}
 use Rattle.ir_typed.proofs.Using.{each_true}
 
 -- ---- the block of a name

@@ -1,8 +1,8 @@
 -- `br` and `switch` lead to blocks of the function, or the run is stuck.
-use Rattle.std.proofs.Common.{◌≡◌, ◌⊎◌, inl, inr, ℕ, zero, suc, ◌<◌, ◌==◌, Bool, true, false, ◌&&◌, if◌then◌else◌, Option, Some, None, List, [], ◌∷◌, ◌++◌, map, refl, sym, ◌∙◌, ap, subst, arith}
+use Rattle.std.proofs.Common.{◌≡◌, ℕ, ◌==◌, Bool, true, false, if◌then◌else◌, Option, Some, None, List, [], ◌∷◌, map, refl, sym, ◌∙◌, ap, subst, arith}
 use Rattle.std.specs.Prelude.{ℤ, Contains}
 use Rattle.std.proofs.lemmas.List.Elements.{Contains-append_right}
-use Rattle.ir_ast.specs.Plain.{Ty, integer, Val}
+use Rattle.ir_ast.specs.Plain.{integer, Val}
 use Rattle.ir_ast.specs.Program as plain
 use Rattle.ir_ast.specs.Program.{Act, InstrView, BlockView, FunctionView, ModuleView}
 use Rattle.ir_type.specs.Rows.{targets}
@@ -13,7 +13,6 @@ use Rattle.ir_check.specs.Checked.{IsChecked}
 use Rattle.ir_check.proofs.Undefined.{Contains-map}
 use Rattle.ir_value.specs.declared.value.Value.{Value}
 use Rattle.ir_value.specs.declared.value.Value.TheVariants.{Number, Null, Address, Poison}
-use Rattle.ir_code.specs.declared.act.Case.{Case}
 use Rattle.ir_machine.specs.declared.state.Machine.{Machine}
 use Rattle.ir_machine.specs.declared.state.Target.{Target}
 use Rattle.ir_machine.specs.declared.state.Target.TheVariants as target
@@ -24,7 +23,7 @@ use Rattle.ir_resolve.specs.Operands.{input_of}
 use Rattle.ir_resolve.specs.Acts.{act_of, block_place, case_of, cases_of}
 use Rattle.ir_resolve.specs.Resolved.{step_of, program_of}
 use Rattle.ir_kernel.specs.Steps.{IsFound}
-use Rattle.ir_kernel.proofs.LoadTypes.{left_of, right_of}
+use Rattle.ir_kernel.proofs.LoadTypes.{left_of}
 use Rattle.ir_kernel.proofs.StepTypes.{branch_found, switch_found}
 use Rattle.ir_typed.proofs.Using.{IsAtHand, at_hand}
 use Rattle.ir_typed.proofs.Keeping.{IsTyped, NextFits}

@@ -1,7 +1,7 @@
 -- Calls: a function with a body begins on top of its caller, and one without is an intrinsic or a hook.
-use Rattle.std.proofs.Common.{◌≡◌, ◌⊎◌, inl, inr, ℕ, zero, suc, ◌+◌, ◌<◌, ◌==◌, Bool, true, false, ◌&&◌, not, if◌then◌else◌, Option, Some, None, option_map, List, [], ◌∷◌, ◌++◌, length, map, refl, sym, ◌∙◌, ap, subst, arith}
+use Rattle.std.proofs.Common.{◌≡◌, ◌⊎◌, inl, inr, ℕ, zero, suc, Bool, true, false, ◌&&◌, not, if◌then◌else◌, Option, Some, None, List, [], ◌∷◌, ◌++◌, length, map, refl, sym, ◌∙◌, ap, subst, arith}
 use Rattle.std.specs.Prelude.{Contains, is_some, bytes_eq, slice_get, option_and_then}
-use Rattle.std.specs.List.{IsDistinct, list_all}
+use Rattle.std.specs.List.{IsDistinct}
 use Rattle.std.proofs.lemmas.Bool.{cases_Bool, eq-eqb}
 use Rattle.std.proofs.lemmas.List.{length-map}
 use Rattle.std.proofs.lemmas.List.Elements.{Contains-append_left, Contains-append_right}
@@ -9,19 +9,16 @@ use Rattle.ir_ast.specs.Plain.{Ty, Val}
 use Rattle.ir_ast.specs.Program as plain
 use Rattle.ir_ast.specs.Program.{Act, InstrView, BlockView, FunctionView, ModuleView}
 use Rattle.ir_ast.specs.Table.{names_of, place_of}
-use Rattle.ir_type.specs.Rows as rows
 use Rattle.ir_type.specs.Whole.{Types, meant, is_same, is_void}
 use Rattle.ir_type.proofs.Places.{at_place, no_place, some_same}
-use Rattle.ir_typing.specs.Intrinsics.{Signature, Intrinsic, intrinsic_of}
+use Rattle.ir_typing.specs.Intrinsics.{Intrinsic, intrinsic_of}
 use Rattle.ir_typing.specs.Registers as registers
 use Rattle.ir_typing.specs.Registers.{function_of, has_body}
-use Rattle.ir_typing.specs.Fits.{scope_of, fits, operands_fit, further, is_phi, are_one, meets, meets_declared, signature_of, call_fits}
+use Rattle.ir_typing.specs.Fits.{scope_of, fits, are_one, meets, meets_declared, signature_of, call_fits}
 use Rattle.ir_check.specs.Checked.{IsChecked}
 use Rattle.ir_check.proofs.NamedGraph.{mapped_at}
 use Rattle.ir_check.proofs.Undefined.{Contains-map}
 use Rattle.ir_value.specs.declared.value.Value.{Value}
-use Rattle.ir_code.specs.declared.input.Input.{Input}
-use Rattle.ir_code.specs.declared.program.Code.{Code}
 use Rattle.ir_machine.specs.declared.state.Computed.{Computed}
 use Rattle.ir_machine.specs.declared.state.Computed.TheVariants.{Sets, Passes, Sticks, Lost}
 use Rattle.ir_machine.specs.declared.state.End.TheVariants as end
@@ -35,14 +32,13 @@ use Rattle.ir_walk.specs.LoopFree.{callees}
 use Rattle.ir_walk.specs.Walk.{Memory}
 use Rattle.ir_kernel.specs.Typed.{IsValueOf, IsSetTo}
 use Rattle.ir_kernel.specs.Steps.{DoPass}
-use Rattle.ir_kernel.proofs.CodeActs.{function_place, IsCalled, called_by_name}
+use Rattle.ir_kernel.proofs.CodeActs.{function_place, called_by_name}
 use Rattle.ir_kernel.proofs.CodePlaces.{code_at, placed, own_function}
-use Rattle.ir_kernel.proofs.CodePlaces as places
 use Rattle.ir_kernel.proofs.LoadTypes.{left_of, right_of}
 use Rattle.ir_kernel.proofs.OperandTypes.{operand_holds}
 use Rattle.ir_kernel.proofs.StepTypes.{arguments_do_pass}
 use Rattle.ir_typed.specs.Spelled.{AreSpelled}
-use Rattle.ir_typed.proofs.Using.{each_true, fit_further, IsAtHand, at_hand}
+use Rattle.ir_typed.proofs.Using.{each_true, IsAtHand, at_hand}
 use Rattle.ir_typed.proofs.Keeping.{IsCaller, AreBelow, IsTyped, NextFits}
 use Rattle.ir_typed.proofs.Returning.{of_same}
 use Rattle.ir_typed.proofs.Entering.{AreSetTo, begun_frame}

@@ -1,33 +1,29 @@
 -- Instructions that neither write nor jump: computations, loads and parts of pairs.
-use Rattle.std.proofs.Common.{◌≡◌, ◌⊎◌, inl, inr, ℕ, zero, suc, ◌<◌, ◌≤◌, ◌==◌, Bool, true, false, ◌&&◌, ◌||◌, not, if◌then◌else◌, Option, Some, None, List, [], ◌∷◌, ◌++◌, length, map, refl, sym, ◌∙◌, ap, subst, arith}
-use Rattle.std.specs.Prelude.{Contains, is_some, position, bytes_eq, nat_le}
-use Rattle.std.specs.List.{list_all}
+use Rattle.std.proofs.Common.{◌≡◌, ◌⊎◌, inl, inr, ℕ, zero, suc, ◌≤◌, ◌==◌, Bool, true, false, ◌&&◌, if◌then◌else◌, Option, Some, None, List, [], ◌∷◌, map, refl, sym, ◌∙◌, ap, subst, arith}
+use Rattle.std.specs.Prelude.{Contains, position, bytes_eq, nat_le}
 use Rattle.std.proofs.lemmas.Bool.{cases_Bool, leb-true}
-use Rattle.std.proofs.lemmas.List.Elements.{Contains-append_right}
 use Rattle.ir_ast.specs.Plain.{Ty, integer, pointer, Val, local}
 use Rattle.ir_ast.specs.Program as plain
 use Rattle.ir_ast.specs.Program.{Act, InstrView, BlockView, FunctionView, ModuleView}
 use Rattle.ir_ast.specs.declared.instr.Predicate.{Predicate}
-use Rattle.ir_type.specs.Names.{entry_of, locals_in}
-use Rattle.ir_type.specs.Rows.{operands, values}
+use Rattle.ir_type.specs.Names.{entry_of}
+use Rattle.ir_type.specs.Rows.{operands}
 use Rattle.ir_type.specs.Shape.{is_last, keeps_notes}
 use Rattle.ir_type.specs.Shape as shape
-use Rattle.ir_type.specs.Whole.{Types, meant, is_same, is_pointer}
+use Rattle.ir_type.specs.Whole.{Types, meant, is_pointer}
 use Rattle.ir_type.proofs.Places.{no_place}
-use Rattle.ir_typing.specs.Intrinsics.{number_and_bit}
 use Rattle.ir_typing.specs.Registers.{Kind, slot_of, pair_of, kind_of, blocks_of, registers_of}
 use Rattle.ir_typing.specs.Registers as registers
 use Rattle.ir_typing.specs.Places.{register_names}
-use Rattle.ir_typing.specs.Fits.{scope_of, fits, operands_fit, further, is_phi, pair_at, is_pair, access_fits, range_fits}
+use Rattle.ir_typing.specs.Fits.{scope_of, fits, pair_at, is_pair, access_fits, range_fits}
 use Rattle.ir_check.specs.Checked.{IsChecked}
-use Rattle.ir_check.specs.Rules.{IsPointerAccess}
 use Rattle.ir_layout.specs.Bytes.{object_of, number_at}
 use Rattle.ir_layout.specs.Sizes.{written_or}
 use Rattle.ir_value.specs.declared.value.Value.{Value}
 use Rattle.ir_value.specs.declared.value.Value.TheVariants.{Number, Null, Address, Poison}
 use Rattle.ir_value.specs.declared.value.Made.{Made}
 use Rattle.ir_value.specs.declared.value.Made.TheVariants as made
-use Rattle.ir_value.specs.declared.value.StuckReason.TheVariants.{U7, U14, U16}
+use Rattle.ir_value.specs.declared.value.StuckReason.TheVariants.{U7, U16}
 use Rattle.ir_value.specs.declared.access.Access.{Access}
 use Rattle.ir_value.specs.declared.access.Access.TheVariants.{At, Not, Nowhere}
 use Rattle.ir_value.specs.Numbers.{is_width, select, freeze}
@@ -47,14 +43,13 @@ use Rattle.ir_resolve.specs.Acts.{act_of, typed, compare_by, load_by, bytes_of, 
 use Rattle.ir_resolve.specs.Resolved.{step_of, program_of}
 use Rattle.ir_walk.specs.Walk.{Memory}
 use Rattle.ir_kernel.specs.Typed.{MakesOf, IsValueOf, IsSetTo, IsReady}
-use Rattle.ir_kernel.specs.Steps.{ComputesOf, GivesOf, is_computation, AreBytes, IsPrepared}
+use Rattle.ir_kernel.specs.Steps.{ComputesOf, GivesOf, is_computation, AreBytes}
 use Rattle.ir_kernel.proofs.LoadTypes.{left_of, right_of, load_gives}
 use Rattle.ir_kernel.proofs.OperandTypes.{names_kept, operand_holds}
 use Rattle.ir_kernel.proofs.StepTypes.{computation_gives}
 use Rattle.ir_kernel.proofs.StoreTypes.{part_gives}
 use Rattle.ir_kernel.proofs.ValueTypes.{select_makes, freeze_makes}
 use Rattle.ir_typed.specs.Spelled.{is_spelled, AreSpelled}
-use Rattle.ir_typed.proofs.Standing.{IsAt}
 use Rattle.ir_typed.proofs.Using.{fit, ready, IsAtHand, at_hand}
 use Rattle.ir_typed.proofs.Keeping.{IsTyped, NextFits, is_pass, given_fits, in_block}
 
@@ -294,15 +289,15 @@ module _ (m : ModuleView) (checked : IsChecked m) (spelled : AreSpelled m) (whol
       let among = in_block m checked t.function t.block t.before t.instr t.after c.top.registers t.at in
       let hand = at_hand m checked t.function t.block t.before t.instr t.after c.top.registers t.at in
       let gives : ComputesOf m.types (kind_of t.instr.act) (computed c.memory (program_of m).objects c.top.registers (act_of m t.function t.instr.act)) = by (cases_Bool (is_computation t.instr.act))
-          (λ b. by (cases_Bool (is_chosen t.instr.act))
-            (λ d. chosen_gives m t.function c.memory (program_of m).objects c.top.registers t.instr.act hand d)
-            (λ d. computation_gives m t.function c.memory (program_of m).objects c.top.registers t.before t.instr b (record {
-              noted = good.noted;
-              fitting = good.fitting;
-              ready = operand;
-              widths = widths_there m.types t.instr.act b d good.noted (spelled t.function t.block t.instr t.at.own t.at.within among);
-            })))
-          (λ b. other_gives m t.function c.memory (program_of m).objects c.top.registers typed.bytes t.instr.act hand e b) in
+      (λ b. by (cases_Bool (is_chosen t.instr.act))
+      (λ d. chosen_gives m t.function c.memory (program_of m).objects c.top.registers t.instr.act hand d)
+      (λ d. computation_gives m t.function c.memory (program_of m).objects c.top.registers t.before t.instr b (record {
+        noted = good.noted;
+        fitting = good.fitting;
+        ready = operand;
+        widths = widths_there m.types t.instr.act b d good.noted (spelled t.function t.block t.instr t.at.own t.at.within among);
+      })))
+      (λ b. other_gives m t.function c.memory (program_of m).objects c.top.registers typed.bytes t.instr.act hand e b) in
       subst (NextFits m whole) (sym known.by)
       (given_fits m checked whole c typed (computed c.memory (program_of m).objects c.top.registers (act_of m t.function t.instr.act)) (goes_on t.instr.act e) gives (λ p. clash (sym (ap is_pass p) ∙ known.some)))
     where

@@ -1,23 +1,20 @@
 -- Calls of functions without a body: the listed intrinsics, and hooks.
-use Rattle.std.proofs.Common.{◌≡◌, ◌⊎◌, inl, inr, ℕ, zero, suc, ◌+◌, ◌<◌, ◌==◌, Bool, true, false, ◌&&◌, not, if◌then◌else◌, Option, Some, None, List, [], ◌∷◌, ◌++◌, length, map, refl, sym, ◌∙◌, ap, subst, arith}
-use Rattle.std.specs.Prelude.{Contains, is_some, unwrap_or}
-use Rattle.std.specs.List.{list_all}
+use Rattle.std.proofs.Common.{◌≡◌, ◌⊎◌, inl, inr, ℕ, Bool, true, false, ◌&&◌, if◌then◌else◌, Option, Some, None, List, [], ◌∷◌, ◌++◌, map, refl, sym, ◌∙◌, ap, subst, arith}
+use Rattle.std.specs.Prelude.{Contains}
 use Rattle.std.proofs.lemmas.Bool.{eqb-true}
 use Rattle.std.proofs.lemmas.List.Elements.{Contains-append_left}
 use Rattle.ir_check.proofs.Undefined.{Contains-map}
-use Rattle.ir_ast.specs.Plain.{Ty, Tys, nothing, integer, pointer, array, structure, packed, named, opaque, no_types, type_and, Val}
+use Rattle.ir_ast.specs.Plain.{Ty, nothing, integer, structure, no_types, type_and, Val}
 use Rattle.ir_ast.specs.Program as plain
 use Rattle.ir_ast.specs.Program.{Act, InstrView, BlockView, FunctionView, ModuleView}
 use Rattle.ir_type.specs.Shape.{is_last}
-use Rattle.ir_type.specs.Whole.{Types, meant, is_same, is_void, is_scalar}
-use Rattle.ir_typing.specs.Intrinsics.{Signature, Intrinsic, with_overflow, assuming, number_and_bit, intrinsic_of}
+use Rattle.ir_type.specs.Whole.{Types, meant, is_same, is_void}
+use Rattle.ir_typing.specs.Intrinsics.{Intrinsic, with_overflow, assuming, number_and_bit, intrinsic_of}
 use Rattle.ir_typing.specs.Registers as registers
 use Rattle.ir_typing.specs.Registers.{Kind, kind_of, overflows}
-use Rattle.ir_typing.specs.Fits.{scope_of, fits, operands_fit, whole_kind, are_one, meets}
+use Rattle.ir_typing.specs.Fits.{scope_of, fits, whole_kind, are_one, meets}
 use Rattle.ir_check.specs.Checked.{IsChecked}
-use Rattle.ir_whole.specs.Questions.{width_of}
 use Rattle.ir_value.specs.declared.value.Value.{Value}
-use Rattle.ir_value.specs.declared.value.Value.TheVariants.{Number, Null, Address, Poison}
 use Rattle.ir_value.specs.declared.value.Made.{Made}
 use Rattle.ir_value.specs.declared.value.Made.TheVariants as made
 use Rattle.ir_value.specs.declared.value.StuckReason.TheVariants.{U17}
@@ -32,22 +29,20 @@ use Rattle.ir_machine.specs.declared.state.Held.TheVariants as held
 use Rattle.ir_machine.specs.declared.state.Computed.{Computed}
 use Rattle.ir_machine.specs.declared.state.Computed.TheVariants.{Sets, Passes, Sticks, Lost}
 use Rattle.ir_machine.specs.declared.state.Machine.{Machine}
-use Rattle.ir_machine.specs.Values.{Registers, value_of, computed_by, on_one, on_two, on_pair, pair_by, assumed, arguments_pass}
+use Rattle.ir_machine.specs.Values.{Registers, value_of, computed_by, on_two, on_pair, pair_by, assumed, arguments_pass}
 use Rattle.ir_machine.specs.Step.{act_on, after}
-use Rattle.ir_resolve.specs.Operands.{input_of}
-use Rattle.ir_resolve.specs.Acts.{act_of, typed, number_width, inputs_of, overflow_kind, pair_kind, overflow_act, pair_act, assume_act, other_act, intrinsic_act}
+use Rattle.ir_resolve.specs.Acts.{typed, number_width, inputs_of, overflow_kind, overflow_act, pair_act, assume_act, other_act, intrinsic_act}
 use Rattle.ir_resolve.specs.Resolved.{step_of, program_of}
-use Rattle.ir_kernel.specs.Typed.{is_of, is_held, are_parts, MakesOf, IsValueOf, IsReady}
-use Rattle.ir_kernel.specs.Steps.{ComputesOf, DoPass}
+use Rattle.ir_kernel.specs.Typed.{is_of, is_held, are_parts, MakesOf, IsValueOf}
+use Rattle.ir_kernel.specs.Steps.{DoPass}
 use Rattle.ir_kernel.proofs.LoadTypes.{left_of, right_of}
 use Rattle.ir_kernel.proofs.OperandTypes.{operand_holds}
 use Rattle.ir_kernel.proofs.StepTypes.{arguments_do_pass}
 use Rattle.ir_kernel.proofs.ValueTypes.{first_makes, second_makes, pair_makes}
-use Rattle.ir_typed.proofs.RegisterKinds.{is_used, is_two}
-use Rattle.ir_typed.proofs.Standing.{MovesOn}
+use Rattle.ir_typed.proofs.RegisterKinds.{is_used}
 use Rattle.ir_typed.proofs.Using.{each_true, IsAtHand, at_hand}
 use Rattle.ir_typed.proofs.Keeping.{IsTyped, NextFits, goes, with_held, with_none}
-use Rattle.ir_typed.proofs.Returning.{of_same, same_of, same_void, void_unused}
+use Rattle.ir_typed.proofs.Returning.{same_of, same_void, void_unused}
 use Rattle.ir_typed.proofs.Listed.{of_two, IsOverflow, IsOfTwo, IsAssume, listed_cases}
 
 no_more : {A : Type 0} (b : Bool) → (b && false) ≡ true → A

@@ -1,31 +1,26 @@
 -- A function begins: its parameters are set, and its first block has no phi.
-use Rattle.std.proofs.Common.{◌≡◌, ◌⊎◌, inl, inr, ℕ, zero, suc, ◌+◌, ◌-◌, ◌<◌, ◌≤◌, ◌==◌, Bool, true, false, ◌&&◌, if◌then◌else◌, Option, Some, None, option_map, List, [], ◌∷◌, ◌++◌, length, map, refl, sym, ◌∙◌, ap, subst, arith}
-use Rattle.std.specs.Prelude.{Contains, flat_map, is_some, position, bytes_eq, slice_get, slice_index_or, count_by}
-use Rattle.std.specs.List.{IsDistinct, AllByRecursion}
+use Rattle.std.proofs.Common.{◌≡◌, inr, ℕ, zero, suc, ◌+◌, ◌-◌, ◌<◌, true, false, Some, option_map, List, [], ◌∷◌, ◌++◌, length, map, refl, sym, ◌∙◌, ap, subst, arith}
+use Rattle.std.specs.Prelude.{Contains, flat_map, is_some, bytes_eq, slice_get, count_by}
+use Rattle.std.specs.List.{AllByRecursion}
 use Rattle.std.proofs.lemmas.List.{append-nil, length-append, length-map}
-use Rattle.std.proofs.lemmas.List.Elements.{Contains-append_right}
 use Rattle.std.proofs.lemmas.Option.{slice_get-map}
 use Rattle.std.proofs.lemmas.Slice.Eq.{bytes_eq-Decides}
 use Rattle.ir_ast.specs.Plain.{Ty, Val}
 use Rattle.ir_ast.specs.Program as plain
 use Rattle.ir_ast.specs.Program.{Act, InstrView, BlockView, FunctionView, ModuleView}
-use Rattle.ir_ast.specs.Table.{names_of}
 use Rattle.ir_type.specs.Items.{IsFunction, function_item, K10}
-use Rattle.ir_type.specs.Names.{entry_of}
 use Rattle.ir_type.specs.Whole.{Types, meant}
 use Rattle.ir_type.proofs.Places.{place_there, some_same}
 use Rattle.ir_typing.specs.Registers as registers
 use Rattle.ir_typing.specs.Registers.{Kind, set_by, blocks_of, registers_of}
 use Rattle.ir_typing.specs.Places.{register_names}
-use Rattle.ir_typing.specs.Fits.{scope_of, whole_kind, is_phi}
+use Rattle.ir_typing.specs.Fits.{is_phi}
 use Rattle.ir_check.specs.Arms.{MeetsCounts}
-use Rattle.ir_check.specs.Paths.{HasEdge, IsEntry, targets_of, parameter_names, set_along}
+use Rattle.ir_check.specs.Paths.{HasEdge, targets_of, parameter_names, set_along}
 use Rattle.ir_check.specs.Checked.{IsChecked}
 use Rattle.ir_check.proofs.PartLaws.{get_of}
 use Rattle.ir_check.proofs.SiteLaws.{contains_at}
 use Rattle.ir_check.proofs.Undefined.{of_map}
-use Rattle.ir_code.specs.declared.program.Code.{Code}
-use Rattle.ir_machine.specs.declared.state.Held.{Held}
 use Rattle.ir_machine.specs.Values.{Registers, held_at}
 use Rattle.ir_machine.specs.Step.{unset, first_registers, begun}
 use Rattle.ir_resolve.specs.Resolved.{code_of}
@@ -33,7 +28,7 @@ use Rattle.ir_kernel.specs.Typed.{IsSetTo}
 use Rattle.ir_kernel.proofs.CodePlaces.{IsBody, body_shaped}
 use Rattle.ir_typed.specs.Spelled.{is_some_arm, is_spelled, AreSpelled}
 use Rattle.ir_typed.proofs.RegisterKinds.{HoldsUsed, registers_differ, row_placed}
-use Rattle.ir_typed.proofs.Standing.{IsAt, IsFrame, block_ends}
+use Rattle.ir_typed.proofs.Standing.{IsFrame, block_ends}
 use Rattle.ir_typed.proofs.BlockNames.{counted, exists, IsHeaded, block_headed}
 
 -- ---- arguments in the registers of parameters
@@ -140,30 +135,33 @@ module _ (m : ModuleView) (checked : IsChecked m) (spelled : AreSpelled m) (k : 
 
       by : (phis : List InstrView) → body.first.instrs ≡ phis ++ h.next ∷ h.rest → AllByRecursion (λ (i : InstrView). is_phi i.act ≡ true) phis → Begins rs
       by (p ∷ phis) parts all = absurd (no_phi p (subst (λ is. Contains is p) (sym parts) (0, omega arith, refl)) all.0)
-      by [] parts all = (record {
-        name = name;
-        function = f;
-        there = there;
-        block = body.first;
-        at_block = ap (λ (bs : List BlockView). slice_get bs 0) body.blocks;
-        before = [];
-        instr = h.next;
-        after = h.rest;
-        position = refl;
-        at = record {
-          own = own;
-          body = body;
-          within = within;
-          parts = parts;
-          plain = h.plain;
-          count = as_many rs set;
-          entry = body.first.name;
-          first = (body.first, body.rest, body.blocks, refl);
-          left = [];
-          walk = refl;
-          set = λ x c. parameters_hold rs set (unset (length (register_names f) - length f.parameters)) x (names_only x c);
-        };
-      }, refl)
+      by [] parts all = (
+        record {
+          name = name;
+          function = f;
+          there = there;
+          block = body.first;
+          at_block = ap (λ (bs : List BlockView). slice_get bs 0) body.blocks;
+          before = [];
+          instr = h.next;
+          after = h.rest;
+          position = refl;
+          at = record {
+            own = own;
+            body = body;
+            within = within;
+            parts = parts;
+            plain = h.plain;
+            count = as_many rs set;
+            entry = body.first.name;
+            first = (body.first, body.rest, body.blocks, refl);
+            left = [];
+            walk = refl;
+            set = λ x c. parameters_hold rs set (unset (length (register_names f) - length f.parameters)) x (names_only x c);
+          };
+        },
+        refl,
+      )
 
   pub begun_frame : (rs : Registers) → AreSetTo m.types f.parameters rs → (fr : IsFrame m (begun k (code_of m f) rs)) × (fr.function ≡ f)
   begun_frame rs set = entry_frame rs set (block_headed body.first (block_ends f body body.first within))

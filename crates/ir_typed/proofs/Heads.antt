@@ -1,42 +1,38 @@
 -- The phis at the head of a block: all are read, and each gives its register a value of its type.
-use Rattle.std.proofs.Common.{◌≡◌, ◌⊎◌, inl, inr, ℕ, zero, suc, ◌+◌, ◌<◌, Bool, true, false, ◌&&◌, if◌then◌else◌, Option, Some, None, List, [], ◌∷◌, ◌++◌, length, map, refl, sym, ◌∙◌, ap, subst, arith}
-use Rattle.std.specs.Prelude.{Contains, flat_map, option_to_list, is_some, position, bytes_eq, slice_set}
-use Rattle.std.specs.List.{AllByRecursion, list_all}
+use Rattle.std.proofs.Common.{◌≡◌, ◌⊎◌, inl, inr, ℕ, zero, suc, ◌<◌, Bool, true, false, Option, Some, None, List, [], ◌∷◌, ◌++◌, length, map, refl, sym, ◌∙◌, ap, subst, arith}
+use Rattle.std.specs.Prelude.{Contains, option_to_list, is_some, slice_set}
+use Rattle.std.specs.List.{AllByRecursion}
 use Rattle.std.proofs.lemmas.List.{append-nil, append_assoc, length-set}
-use Rattle.std.proofs.lemmas.List.Elements.{Contains-append_right, Contains-append_cases}
+use Rattle.std.proofs.lemmas.List.Elements.{Contains-append_cases}
 use Rattle.ir_ast.specs.Plain.{Ty, Val}
 use Rattle.ir_ast.specs.Program as plain
 use Rattle.ir_ast.specs.Program.{Act, phi, InstrView, BlockView, FunctionView, ModuleView}
 use Rattle.ir_ast.specs.declared.instr.Predicate.{Predicate}
-use Rattle.ir_type.specs.Names.{entry_of}
 use Rattle.ir_type.specs.Whole.{meant, is_pointer}
 use Rattle.ir_type.proofs.Places.{some_same}
 use Rattle.ir_typing.specs.Intrinsics.{intrinsic_of}
 use Rattle.ir_typing.specs.Places.{register_names}
 use Rattle.ir_typing.specs.Registers as registers
 use Rattle.ir_typing.specs.Registers.{Kind, kind_of}
-use Rattle.ir_typing.specs.Fits.{scope_of, whole_kind, is_phi}
+use Rattle.ir_typing.specs.Fits.{whole_kind, is_phi}
 use Rattle.ir_check.specs.Paths.{results}
 use Rattle.ir_value.specs.declared.intrinsics.OverflowKind.{OverflowKind}
 use Rattle.ir_value.specs.declared.intrinsics.PairKind.{PairKind}
 use Rattle.ir_value.specs.declared.value.Value.{Value}
 use Rattle.ir_code.specs.declared.act.Act as code
-use Rattle.ir_code.specs.declared.act.Act.TheVariants as act
 use Rattle.ir_code.specs.declared.act.Span.{Span}
 use Rattle.ir_code.specs.declared.act.Step.{Step}
-use Rattle.ir_code.specs.declared.input.Input.{Input}
 use Rattle.ir_machine.specs.declared.state.Held.TheVariants as held
-use Rattle.ir_machine.specs.declared.state.Head.{Head}
 use Rattle.ir_machine.specs.declared.state.Head.TheVariants as head
 use Rattle.ir_machine.specs.Values.{Registers, value_of}
-use Rattle.ir_machine.specs.Step.{head_of, staged, staged_on, arm_from, arm_value, phi_of, set_all}
+use Rattle.ir_machine.specs.Step.{head_of, staged, staged_on, arm_value, phi_of, set_all}
 use Rattle.ir_resolve.specs.Operands.{width_in, input_of}
-use Rattle.ir_resolve.specs.Acts.{act_of, arms_of, compare_by, load_by, store_by, call_by, intrinsic_act, overflow_act, other_act, pair_act, assume_act, overflow_kind, pair_kind, body_place, extract_of, register_place, slot_place, spans_of, number_width}
+use Rattle.ir_resolve.specs.Acts.{act_of, compare_by, load_by, store_by, call_by, intrinsic_act, overflow_act, other_act, pair_act, assume_act, overflow_kind, pair_kind, body_place, extract_of, register_place, slot_place, spans_of, number_width}
 use Rattle.ir_resolve.specs.Resolved.{result_place, step_of}
 use Rattle.ir_walk.specs.Walk.{Memory}
 use Rattle.ir_kernel.specs.Typed.{is_of, is_held, IsValueOf}
-use Rattle.ir_typed.proofs.RegisterKinds.{is_used, HoldsUsed, IsPlaced, set_holds}
-use Rattle.ir_typed.proofs.BlockNames.{IsBlockOf, HasArm}
+use Rattle.ir_typed.proofs.RegisterKinds.{HoldsUsed, IsPlaced, set_holds}
+use Rattle.ir_typed.proofs.BlockNames.{HasArm}
 
 -- ---- what is no phi ends the head
 

@@ -1,52 +1,43 @@
 -- Jumps: a block is entered behind its phis.
-use Rattle.std.proofs.Common.{◌≡◌, ◌⊎◌, inl, inr, ℕ, zero, suc, ◌+◌, ◌<◌, ◌==◌, Bool, true, false, ◌&&◌, ◌||◌, not, if◌then◌else◌, Option, Some, None, List, [], ◌∷◌, ◌++◌, length, map, refl, sym, ◌∙◌, ap, subst, arith}
-use Rattle.std.specs.Prelude.{ℤ, Contains, flat_map, option_to_list, is_some, slice_get}
+use Rattle.std.proofs.Common.{◌≡◌, ◌⊎◌, inl, inr, ℕ, true, false, ◌||◌, not, Option, Some, None, List, [], ◌∷◌, ◌++◌, map, refl, sym, ◌∙◌, ap, subst, arith}
+use Rattle.std.specs.Prelude.{Contains, flat_map, is_some, slice_get}
 use Rattle.std.specs.List.{AllByRecursion, list_all}
 use Rattle.std.specs.Bool.{beq}
-use Rattle.std.proofs.lemmas.List.{append-nil, append_assoc}
+use Rattle.std.proofs.lemmas.List.{append-nil}
 use Rattle.std.proofs.lemmas.List.Concat.{flat_map-append}
 use Rattle.std.proofs.lemmas.List.Elements.{Contains-append_left, Contains-append_right, Contains-append_cases}
-use Rattle.ir_ast.specs.Plain.{Ty, integer, Val}
+use Rattle.ir_ast.specs.Plain.{Ty, Val}
 use Rattle.ir_ast.specs.Program as plain
 use Rattle.ir_ast.specs.Program.{Act, InstrView, BlockView, FunctionView, ModuleView}
 use Rattle.hk_graph.specs.Walks.{Walks}
-use Rattle.ir_type.specs.Names.{entry_of, locals_in}
+use Rattle.ir_type.specs.Names.{locals_in}
 use Rattle.ir_type.specs.Rows.{operands, values, targets}
-use Rattle.ir_type.specs.Shape.{is_last, is_call, sets_none, sets_its_own}
+use Rattle.ir_type.specs.Shape.{is_last, is_call, sets_none}
 use Rattle.ir_type.specs.Whole.{meant}
 use Rattle.ir_typing.specs.Registers as registers
 use Rattle.ir_typing.specs.Registers.{Kind, kind_of, blocks_of}
-use Rattle.ir_typing.specs.Places.{register_names}
-use Rattle.ir_typing.specs.Fits.{scope_of, fits, operands_fit, further, is_phi, instr_fits}
+use Rattle.ir_typing.specs.Fits.{scope_of, fits, operands_fit, further, is_phi}
 use Rattle.ir_check.specs.Paths.{HasEdge, Use, uses, set_along, results, instrs_of, parameter_names}
 use Rattle.ir_check.specs.Checked.{IsChecked}
 use Rattle.ir_check.proofs.SiteLaws.{contains_at}
 use Rattle.ir_check.proofs.Undefined.{Contains-map, in_flat_map}
-use Rattle.ir_value.specs.declared.value.Value.{Value}
-use Rattle.ir_code.specs.declared.act.Case.{Case}
-use Rattle.ir_code.specs.declared.act.Step.{Step}
 use Rattle.ir_machine.specs.declared.state.Machine.{Machine}
-use Rattle.ir_machine.specs.declared.state.Target.{Target}
-use Rattle.ir_machine.specs.declared.state.Target.TheVariants as target
-use Rattle.ir_machine.specs.Values.{Registers, value_of}
-use Rattle.ir_machine.specs.Step.{act_on, entered, entered_frame, jump, go, staged, set_all, steps_of, branch_to, switch_to, case_of}
-use Rattle.ir_resolve.specs.Operands.{width_in, input_of}
-use Rattle.ir_resolve.specs.Acts.{act_of, block_place, cases_of}
+use Rattle.ir_machine.specs.Values.{Registers}
+use Rattle.ir_machine.specs.Step.{entered, jump, steps_of}
+use Rattle.ir_resolve.specs.Operands.{width_in}
+use Rattle.ir_resolve.specs.Acts.{block_place}
 use Rattle.ir_resolve.specs.Resolved.{step_of, program_of}
-use Rattle.ir_walk.specs.Walk.{Memory}
 use Rattle.ir_kernel.specs.Typed.{IsReady}
-use Rattle.ir_kernel.specs.Steps.{IsFound}
 use Rattle.ir_kernel.proofs.CodePlaces.{steps_there}
 use Rattle.ir_kernel.proofs.InstrFacts.{instr_is_fit}
 use Rattle.ir_kernel.proofs.LoadTypes.{left_of, right_of}
 use Rattle.ir_kernel.proofs.OperandTypes.{operand_holds}
-use Rattle.ir_kernel.proofs.StepTypes.{branch_found, switch_found}
 use Rattle.ir_typed.proofs.RegisterKinds.{HoldsUsed, result_placed}
-use Rattle.ir_typed.proofs.Standing.{IsAt, IsFrame, one_on, block_ends}
-use Rattle.ir_typed.proofs.Using.{each_true, fit, IsAtHand, at_hand, values_usable, globals_known}
+use Rattle.ir_typed.proofs.Standing.{IsAt, one_on, block_ends}
+use Rattle.ir_typed.proofs.Using.{each_true, fit, values_usable, globals_known}
 use Rattle.ir_typed.proofs.Keeping.{IsTyped, NextFits, no_more, in_block, sets_in}
-use Rattle.ir_typed.proofs.BlockNames.{IsBlockOf, block_known, targets_known, own_instrs, own_place, edge_to, named_so, HasArm, arm_of_edge, IsHeaded, block_headed, nothing_behind}
-use Rattle.ir_typed.proofs.Heads.{HasValue, IsStaged, AreReadBy, as_many, phis_staged, set_length, all_set}
+use Rattle.ir_typed.proofs.BlockNames.{block_known, targets_known, own_instrs, own_place, edge_to, named_so, arm_of_edge, IsHeaded, block_headed, nothing_behind}
+use Rattle.ir_typed.proofs.Heads.{HasValue, IsStaged, as_many, phis_staged, set_length, all_set}
 
 walks_on : (f : FunctionView) (left : List (List ℕ)) (a b y : List ℕ) → Walks (HasEdge f) a left b → HasEdge f b y → Walks (HasEdge f) a (left ++ b ∷ []) y
 walks_on f [] a b y e r = (e, y, r, refl)
@@ -112,11 +103,11 @@ module _ (m : ModuleView) (checked : IsChecked m) (whole : FunctionView) (c : Ma
               let valued : Contains (values p.act) arm.arm.0 = Contains-append_left (map (λ (q : Ty × Val). q.1) (operands p.act)) _ arm.arm.0 (Contains-map (λ (q : Ty × Val). q.1) (operands p.act) (over, arm.arm.0) listed) in
               let make : Val × List ℕ → List ℕ → Use = λ a x. record { register = x; block = a.1; behind = instrs_of f a.1 } in
               let set : (y : List ℕ) → Contains (locals_in arm.arm.0) y → HoldsUsed m f rs y = λ y d.
-                  let used_there : Contains (uses f into before p.act) (make arm.arm y) =
-                  subst (λ (a : Act). Contains (uses f into before a) (make arm.arm y)) (sym act)
-                  (in_flat_map (λ (a : Val × List ℕ). map (make a) (locals_in a.0)) arms arm.arm (make arm.arm y) arm.among (Contains-map (make arm.arm) (locals_in arm.arm.0) y d)) in
-                  let told = checked.set f at.own into before after p (make arm.arm y) within parts used_there at.entry at.left at.first (subst (λ z. Walks (HasEdge f) at.entry at.left z) (sym from) at.walk) in
-                  at_end y (subst (λ z. Contains (set_along f at.left (instrs_of f z)) y) from told) in
+              let used_there : Contains (uses f into before p.act) (make arm.arm y) =
+              subst (λ (a : Act). Contains (uses f into before a) (make arm.arm y)) (sym act)
+              (in_flat_map (λ (a : Val × List ℕ). map (make a) (locals_in a.0)) arms arm.arm (make arm.arm y) arm.among (Contains-map (make arm.arm) (locals_in arm.arm.0) y d)) in
+              let told = checked.set f at.own into before after p (make arm.arm y) within parts used_there at.entry at.left at.first (subst (λ z. Walks (HasEdge f) at.entry at.left z) (sym from) at.walk) in
+              at_end y (subst (λ z. Contains (set_along f at.left (instrs_of f z)) y) from told) in
               let ready : IsReady m f rs arm.arm.0 = record {
                 set = λ y d k kind q g. set y d k kind q g (values_usable m f (list_all (λ i. is_phi i.act) before) (is_some p.result) p.act fitting more arm.arm.0 valued y kind d g);
                 known = λ y d. globals_known m f p.act good.known arm.arm.0 valued y d;

@@ -1,6 +1,6 @@
 -- A configuration whose frames stand at instructions and whose registers hold what their kinds ask, and what one instruction makes of it.
-use Rattle.std.proofs.Common.{◌≡◌, ◌⊎◌, inl, inr, ℕ, zero, suc, ◌+◌, ◌<◌, Bool, true, false, ◌&&◌, ◌||◌, not, if◌then◌else◌, Option, Some, None, List, [], ◌∷◌, ◌++◌, length, map, refl, sym, ◌∙◌, ap, subst, arith}
-use Rattle.std.specs.Prelude.{All, Contains, flat_map, option_to_list, option_and_then, is_some, position, bytes_eq, slice_set}
+use Rattle.std.proofs.Common.{◌≡◌, ◌⊎◌, inl, inr, ℕ, zero, suc, ◌<◌, Bool, true, false, ◌&&◌, ◌||◌, not, Option, Some, None, List, [], ◌∷◌, ◌++◌, refl, sym, ◌∙◌, ap, subst, arith}
+use Rattle.std.specs.Prelude.{All, Contains, flat_map, option_to_list, is_some, slice_set}
 use Rattle.std.specs.Bool.{beq}
 use Rattle.std.proofs.lemmas.List.{length-set}
 use Rattle.std.proofs.lemmas.List.Concat.{flat_map-append}
@@ -12,7 +12,6 @@ use Rattle.ir_type.specs.Shape.{is_last, is_call, sets_none, sets_its_own, keeps
 use Rattle.ir_type.specs.Whole.{meant, is_same}
 use Rattle.ir_type.proofs.Places.{some_same}
 use Rattle.ir_typing.specs.Registers.{Kind, kind_of, blocks_of}
-use Rattle.ir_typing.specs.Places.{register_names}
 use Rattle.ir_typing.specs.Fits.{scope_of, whole_kind}
 use Rattle.ir_type.specs.Names.{entry_of}
 use Rattle.ir_check.specs.Paths.{set_along, results, instrs_of, parameter_names}
@@ -25,15 +24,15 @@ use Rattle.ir_machine.specs.declared.state.Machine.{Machine}
 use Rattle.ir_machine.specs.declared.state.Next.{Next}
 use Rattle.ir_machine.specs.declared.state.Next.TheVariants.{Going, Ended}
 use Rattle.ir_machine.specs.Values.{Registers}
-use Rattle.ir_machine.specs.Step.{with_result, behind, going_on, after}
+use Rattle.ir_machine.specs.Step.{with_result, going_on, after}
 use Rattle.ir_resolve.specs.Resolved.{result_place, step_of}
 use Rattle.ir_kernel.specs.Typed.{is_held}
 use Rattle.ir_kernel.specs.Steps.{AreBytes, ComputesOf}
-use Rattle.ir_kernel.proofs.LoadTypes.{left_of, right_of}
+use Rattle.ir_kernel.proofs.LoadTypes.{right_of}
 use Rattle.ir_kernel.proofs.CodePlaces.{IsBody}
 use Rattle.ir_typed.specs.Endings.{IsEndOf}
 use Rattle.ir_typed.proofs.RegisterKinds.{is_used, HoldsUsed, IsPlaced, result_placed, set_holds}
-use Rattle.ir_typed.proofs.Standing.{IsAt, IsFrame, MovesOn, moves_on, frame_moves, step_is}
+use Rattle.ir_typed.proofs.Standing.{IsAt, IsFrame, MovesOn, moves_on, frame_moves}
 
 -- ---- configurations
 
@@ -164,8 +163,8 @@ module _ (m : ModuleView) (checked : IsChecked m) (f : FunctionView) (b : BlockV
           let put : result_place f i.result ≡ Some place = ap (result_place f) r ∙ p.1.at in
           let more = slice_set rs place (Some h) in
           let fit = λ (kind : Kind) (e : entry_of x (scope_of m f).registers ≡ Some kind) (u : is_used kind ≡ true).
-              let same = same_kind kind (whole_kind m.types p.0.kind) (sym e ∙ p.1.found) in
-              subst (λ k. is_held k h ≡ true) (sym same) (fits p.0.kind p.0.is (subst (λ k. is_used k ≡ true) same u)) in
+          let same = same_kind kind (whole_kind m.types p.0.kind) (sym e ∙ p.1.found) in
+          subst (λ k. is_held k h ≡ true) (sym same) (fits p.0.kind p.0.is (subst (λ k. is_used k ≡ true) same u)) in
           let below = subst (λ n. place < n) (sym at.count) p.1.below in
           subst (λ o. MovesOn m f b before i (with_result o h rs)) (sym put)
           (moves_on m checked f b before i behind_it rs more at not_last (length-set rs place (Some h) ∙ at.count)

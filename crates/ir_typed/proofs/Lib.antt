@@ -15,3 +15,5 @@ pub mod Declared
 pub mod Calling
 pub mod NeverLost
 pub mod WholeRuns
+pub mod SpelledLaws
+pub mod ByteMemories

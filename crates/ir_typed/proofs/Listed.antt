@@ -1,13 +1,12 @@
 -- The listed intrinsics: what the code makes of a name, and the types that it asks for.
-use Rattle.std.proofs.Common.{◌≡◌, ◌⊎◌, inl, inr, ℕ, zero, suc, ◌<◌, Bool, true, false, Option, Some, None, List, [], ◌∷◌, ◌++◌, map, refl, sym, ◌∙◌, ap, subst, arith}
+use Rattle.std.proofs.Common.{◌≡◌, ◌⊎◌, inl, inr, ℕ, zero, suc, Bool, true, false, Option, Some, None, List, [], ◌∷◌, ◌++◌, refl, sym, ◌∙◌, ap, subst, arith}
 use Rattle.std.specs.Prelude.{Contains, flat_map, codes}
-use Rattle.std.specs.List.{AllByRecursion, range_with_len, list_all}
+use Rattle.std.specs.List.{AllByRecursion, range_with_len}
 use Rattle.std.proofs.lemmas.List.Elements.{All-from_recursion, All-contains, Contains-append_cases}
-use Rattle.ir_ast.specs.Plain.{Ty, integer}
+use Rattle.ir_ast.specs.Plain.{integer}
 use Rattle.ir_ast.specs.Table.{place_of}
-use Rattle.ir_type.specs.Names.{entry_of}
 use Rattle.ir_type.proofs.Places.{at_place, no_place, some_same}
-use Rattle.ir_typing.specs.Intrinsics.{Signature, Intrinsic, with_overflow, plain_pair, with_flag, assuming, overflow_rows, plain_rows, digits, at_widths, intrinsics, intrinsic_of}
+use Rattle.ir_typing.specs.Intrinsics.{Intrinsic, with_overflow, assuming, overflow_rows, plain_rows, digits, at_widths, intrinsics, intrinsic_of}
 use Rattle.ir_check.proofs.SiteLaws.{contains_at}
 use Rattle.ir_check.proofs.Undefined.{of_map, of_flat_map}
 use Rattle.ir_value.specs.Intrinsics.{second_width}
@@ -51,16 +50,36 @@ Overflows row = (w : ℕ) → (kind : OverflowKind × Bool) × (overflow_kind (r
 
 overflows_are : AllByRecursion Overflows overflow_rows
 overflows_are = (
-  λ w. ((overflow.Add, false), refl, refl), (λ w. ((overflow.Add, true), refl, refl), (λ w. ((overflow.Sub, false), refl, refl), (λ w. ((overflow.Sub, true), refl, refl),
-  (λ w. ((overflow.Mul, false), refl, refl), (λ w. ((overflow.Mul, true), refl, refl), tt))))))
+  λ w. ((overflow.Add, false), refl, refl),
+  (
+    λ w. ((overflow.Add, true), refl, refl),
+    (
+      λ w. ((overflow.Sub, false), refl, refl),
+      (
+        λ w. ((overflow.Sub, true), refl, refl),
+        (λ w. ((overflow.Mul, false), refl, refl), (λ w. ((overflow.Mul, true), refl, refl), tt)),
+      ),
+    ),
+  ),
+)
 
 abbrev Pairs : Row → Type 0
 Pairs row = (w : ℕ) → (kind : PairKind) × (overflow_kind (row.0 ++ digits w) ≡ None) × (pair_kind (row.0 ++ digits w) ≡ Some kind) × (row.1 w ≡ of_two kind w)
 
 pairs_are : AllByRecursion Pairs plain_rows
 pairs_are = (
-  λ w. (pair.Umin, refl, refl, refl), (λ w. (pair.Umax, refl, refl, refl), (λ w. (pair.Smin, refl, refl, refl), (λ w. (pair.Smax, refl, refl, refl),
-  (λ w. (pair.Abs, refl, refl, refl), (λ w. (pair.Expect, refl, refl, refl), tt))))))
+  λ w. (pair.Umin, refl, refl, refl),
+  (
+    λ w. (pair.Umax, refl, refl, refl),
+    (
+      λ w. (pair.Smin, refl, refl, refl),
+      (
+        λ w. (pair.Smax, refl, refl, refl),
+        (λ w. (pair.Abs, refl, refl, refl), (λ w. (pair.Expect, refl, refl, refl), tt)),
+      ),
+    ),
+  ),
+)
 
 -- a row at one of the widths
 record IsRowAt (row : Row) (e : List ℕ × Intrinsic) : Type 0 where

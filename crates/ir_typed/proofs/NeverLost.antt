@@ -1,9 +1,9 @@
 -- No run of a function of a checked kernel is lost.
-use Rattle.std.proofs.Common.{◌≡◌, ◌⊎◌, inl, inr, ℕ, zero, suc, ◌<◌, ◌^◌, Bool, true, false, ◌&&◌, Option, Some, None, List, [], ◌∷◌, map, refl, sym, ◌∙◌, ap, subst, arith}
+use Rattle.std.proofs.Common.{◌≡◌, ℕ, zero, suc, ◌^◌, true, false, Some, List, [], ◌∷◌, map, refl, sym, ◌∙◌, ap, subst}
 use Rattle.std.specs.Prelude.{is_some, bytes_eq, slice_get}
 use Rattle.std.specs.List.{IsDistinct}
 use Rattle.std.proofs.lemmas.Bool.{lt-ltb}
-use Rattle.ir_ast.specs.Plain.{Ty, integer, Val}
+use Rattle.ir_ast.specs.Plain.{Ty, integer}
 use Rattle.ir_ast.specs.Program as plain
 use Rattle.ir_ast.specs.Program.{Act, InstrView, FunctionView, ModuleView}
 use Rattle.ir_ast.specs.Table.{names_of}
@@ -11,13 +11,11 @@ use Rattle.ir_type.specs.Whole.{Types, meant}
 use Rattle.ir_typing.specs.Fits.{is_phi}
 use Rattle.ir_check.specs.Checked.{IsChecked}
 use Rattle.ir_value.specs.declared.value.Value.TheVariants.{Number}
-use Rattle.ir_code.specs.declared.act.Step.{Step}
 use Rattle.ir_machine.specs.declared.state.Held.TheVariants as held
 use Rattle.ir_machine.specs.declared.state.Machine.{Machine}
 use Rattle.ir_machine.specs.declared.state.End.{End}
 use Rattle.ir_machine.specs.declared.state.Next.{Next}
 use Rattle.ir_machine.specs.declared.state.Next.TheVariants.{Going, Ended}
-use Rattle.ir_machine.specs.Values.{Registers}
 use Rattle.ir_machine.specs.Step as machine
 use Rattle.ir_machine.specs.Step.{step, act_on, then_run, run, start}
 use Rattle.ir_resolve.specs.Acts.{act_of}
@@ -27,7 +25,7 @@ use Rattle.ir_kernel.specs.Steps.{AreBytes}
 use Rattle.ir_typed.specs.Spelled.{AreSpelled}
 use Rattle.ir_typed.specs.Endings.{IsNumberOf, AreNumbersOf, IsEndOf}
 use Rattle.ir_typed.proofs.Standing.{step_is}
-use Rattle.ir_typed.proofs.Keeping.{AreBelow, IsTyped, NextFits}
+use Rattle.ir_typed.proofs.Keeping.{IsTyped, NextFits}
 use Rattle.ir_typed.proofs.Computing.{simple_fits}
 use Rattle.ir_typed.proofs.Storing.{store_fits}
 use Rattle.ir_typed.proofs.Branching.{goto_fits, branch_fits, switch_fits}

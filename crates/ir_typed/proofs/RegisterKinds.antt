@@ -1,18 +1,16 @@
 -- Registers by their names: each result has a place and a kind, and a register that is set changes no other.
-use Rattle.std.proofs.Common.{◌≡◌, ◌≢◌, ◌⊎◌, inl, inr, ℕ, zero, suc, ◌<◌, Bool, true, false, ◌&&◌, Option, Some, None, option_map, List, [], ◌∷◌, ◌++◌, length, map, refl, sym, ◌∙◌, ap, subst, arith}
-use Rattle.std.specs.Prelude.{Contains, All, slice_get, slice_index_or, slice_set, flat_map, option_to_list, is_some, position, bytes_eq, not}
+use Rattle.std.proofs.Common.{◌≡◌, ◌≢◌, ◌⊎◌, inl, inr, ℕ, ◌<◌, Bool, true, false, Option, Some, None, option_map, List, [], ◌∷◌, ◌++◌, length, map, refl, sym, ◌∙◌, ap, subst, arith}
+use Rattle.std.specs.Prelude.{Contains, slice_get, slice_set, flat_map, option_to_list, position, bytes_eq}
 use Rattle.std.specs.List.{IsDistinct, AllByRecursion}
-use Rattle.std.specs.Bool.{beq}
 use Rattle.std.proofs.lemmas.Bool.{cases_eq}
-use Rattle.std.proofs.lemmas.List.{append-nil, length-map, get_or-set_same, get_or-set_other}
-use Rattle.std.proofs.lemmas.List.Elements.{Contains-append_left, Contains-append_right}
+use Rattle.std.proofs.lemmas.List.{length-map, get_or-set_same, get_or-set_other}
+use Rattle.std.proofs.lemmas.List.Elements.{Contains-append_right}
 use Rattle.std.proofs.lemmas.Option.{slice_get-map}
 use Rattle.ir_ast.specs.Plain.{Ty, Tys, structure, no_types, type_and}
 use Rattle.ir_ast.specs.Program.{InstrView, BlockView, FunctionView, ModuleView}
-use Rattle.ir_ast.specs.Table.{names_of, place_of}
+use Rattle.ir_ast.specs.Table.{names_of}
 use Rattle.ir_type.specs.Names.{entry_of}
-use Rattle.ir_type.specs.Whole.{Types, meant, is_scalar}
-use Rattle.ir_type.specs.Shape.{IsShapedBody}
+use Rattle.ir_type.specs.Whole.{Types, is_scalar}
 use Rattle.ir_type.proofs.Places.{at_place, place_there, same_first, same_second, some_same, get_below}
 use Rattle.ir_typing.specs.Registers.{Kind, value_of, slot_of, pair_of, kind_of, set_by, blocks_of, registers_of}
 use Rattle.ir_typing.specs.Places.{register_names}

@@ -1,12 +1,11 @@
 -- Returns: the caller goes on behind its call, or the run ends with a value of the function's result.
-use Rattle.std.proofs.Common.{◌≡◌, ◌≢◌, ◌⊎◌, inl, inr, ℕ, zero, suc, ◌<◌, ◌==◌, Bool, true, false, ◌&&◌, ◌||◌, not, if◌then◌else◌, Option, Some, None, List, [], ◌∷◌, ◌++◌, map, refl, sym, ◌∙◌, ap, subst, arith}
-use Rattle.std.specs.Prelude.{Contains, is_some}
+use Rattle.std.proofs.Common.{◌≡◌, ◌≢◌, Bool, true, false, ◌||◌, if◌then◌else◌, Option, Some, None, List, [], ◌∷◌, refl, sym, ◌∙◌, ap, subst, arith}
 use Rattle.std.proofs.lemmas.Bool.{eqb-true}
-use Rattle.ir_ast.specs.Plain.{Ty, Tys, nothing, integer, pointer, array, structure, packed, named, opaque, Val}
+use Rattle.ir_ast.specs.Plain.{Ty, nothing, integer, pointer, structure, Val}
 use Rattle.ir_ast.specs.Program as plain
 use Rattle.ir_ast.specs.Program.{Act, InstrView, BlockView, FunctionView, ModuleView}
-use Rattle.ir_type.specs.Shape.{is_last, keeps_notes}
-use Rattle.ir_type.specs.Whole.{Types, meant, is_same, is_void, is_scalar}
+use Rattle.ir_type.specs.Shape.{is_last}
+use Rattle.ir_type.specs.Whole.{meant, is_same, is_void, is_scalar}
 use Rattle.ir_typing.specs.Intrinsics.{intrinsic_of}
 use Rattle.ir_typing.specs.Registers as registers
 use Rattle.ir_typing.specs.Registers.{Kind, kind_of, overflows}
@@ -15,21 +14,18 @@ use Rattle.ir_check.specs.Checked.{IsChecked}
 use Rattle.ir_value.specs.declared.value.Value.{Value}
 use Rattle.ir_value.specs.declared.value.Value.TheVariants.{Number, Null, Address, Poison}
 use Rattle.ir_code.specs.declared.input.Input.{Input}
-use Rattle.ir_code.specs.declared.act.Step.{Step}
 use Rattle.ir_machine.specs.declared.state.Held.TheVariants as held
 use Rattle.ir_machine.specs.declared.state.Frame.{Frame}
 use Rattle.ir_machine.specs.declared.state.Machine.{Machine}
-use Rattle.ir_machine.specs.declared.state.End.TheVariants.{Returned}
 use Rattle.ir_machine.specs.Values.{Registers, value_of}
-use Rattle.ir_machine.specs.Step.{act_on, step_at, resumed, return_to, return_value, with_value, with_result}
+use Rattle.ir_machine.specs.Step.{act_on, resumed, return_to, return_value, with_value}
 use Rattle.ir_resolve.specs.Acts.{act_of}
 use Rattle.ir_resolve.specs.Resolved.{step_of, program_of, result_place}
 use Rattle.ir_kernel.specs.Typed.{is_of, is_held, IsValueOf}
-use Rattle.ir_kernel.proofs.LoadTypes.{left_of, right_of}
+use Rattle.ir_kernel.proofs.LoadTypes.{left_of}
 use Rattle.ir_kernel.proofs.OperandTypes.{operand_holds}
-use Rattle.ir_typed.specs.Endings.{IsEndOf}
 use Rattle.ir_typed.proofs.RegisterKinds.{is_used, is_two}
-use Rattle.ir_typed.proofs.Standing.{IsFrame, MovesOn, step_is, frame_moves}
+use Rattle.ir_typed.proofs.Standing.{MovesOn, step_is, frame_moves}
 use Rattle.ir_typed.proofs.Using.{IsAtHand, at_hand}
 use Rattle.ir_typed.proofs.Keeping.{IsCaller, AreBelow, IsTyped, NextFits, with_held, with_none}
 

@@ -1,31 +1,26 @@
 -- Where a frame of a checked kernel stands, and that it moves on behind an instruction that does not end its block.
-use Rattle.std.proofs.Common.{◌≡◌, ◌⊎◌, inl, inr, ℕ, zero, suc, ◌+◌, ◌<◌, Bool, true, false, ◌&&◌, Option, Some, None, option_map, List, [], ◌∷◌, ◌++◌, length, map, refl, sym, ◌∙◌, ap, subst, arith}
-use Rattle.std.specs.Prelude.{Contains, All, slice_get, slice_index_or, flat_map, option_to_list, is_some, bytes_eq}
-use Rattle.std.specs.List.{IsDistinct, list_all, list_any}
-use Rattle.std.proofs.lemmas.List.{append-nil, append_assoc, length-append}
-use Rattle.std.proofs.lemmas.List.Elements.{Contains-append_right, All-contains}
+use Rattle.std.proofs.Common.{◌≡◌, ℕ, ◌+◌, Bool, true, false, ◌&&◌, Some, option_map, List, [], ◌∷◌, ◌++◌, length, refl, sym, ◌∙◌, ap, subst, arith}
+use Rattle.std.specs.Prelude.{Contains, slice_get, slice_index_or, is_some}
+use Rattle.std.specs.List.{list_all}
+use Rattle.std.proofs.lemmas.List.Elements.{All-contains}
 use Rattle.std.proofs.lemmas.Option.{slice_get-map}
-use Rattle.ir_ast.specs.Plain.{Ty, Val}
 use Rattle.ir_ast.specs.Program.{Act, phi, InstrView, BlockView, FunctionView, ModuleView}
-use Rattle.ir_ast.specs.Table.{names_of}
 use Rattle.hk_graph.specs.Walks.{Walks}
 use Rattle.ir_type.specs.Items.{IsFunction}
-use Rattle.ir_type.specs.Shape.{is_last, Ends, IsShaped}
-use Rattle.ir_type.proofs.Places.{some_same, get_below}
+use Rattle.ir_type.specs.Shape.{is_last, Ends}
 use Rattle.ir_typing.specs.Registers.{blocks_of}
 use Rattle.ir_typing.specs.Places.{register_names}
-use Rattle.ir_typing.specs.Fits.{scope_of, operands_fit, further, is_phi, instr_fits}
+use Rattle.ir_typing.specs.Fits.{scope_of, operands_fit, further, is_phi}
 use Rattle.ir_check.specs.Paths.{HasEdge, IsEntry, set_along}
 use Rattle.ir_check.specs.Checked.{IsChecked}
-use Rattle.ir_check.proofs.SiteLaws.{contains_at}
 use Rattle.ir_code.specs.declared.act.Step.{Step}
 use Rattle.ir_machine.specs.declared.state.Frame.{Frame}
 use Rattle.ir_machine.specs.Values.{Registers}
-use Rattle.ir_machine.specs.Step.{steps_of, step_at, behind}
+use Rattle.ir_machine.specs.Step.{step_at, behind}
 use Rattle.ir_resolve.specs.Resolved.{step_of, program_of}
 use Rattle.ir_kernel.proofs.CodePlaces.{IsBody, steps_there}
 use Rattle.ir_kernel.proofs.InstrFacts.{instr_is_fit}
-use Rattle.ir_kernel.proofs.LoadTypes.{left_of, right_of}
+use Rattle.ir_kernel.proofs.LoadTypes.{right_of}
 use Rattle.ir_typed.proofs.RegisterKinds.{HoldsUsed}
 
 -- ---- an instruction of a block, and the registers when it is reached along a path from the first block

@@ -1,6 +1,6 @@
 -- Stores, into slots and into memory.
-use Rattle.std.proofs.Common.{lit<, ◌≡◌, ◌⊎◌, inl, inr, ℕ, zero, suc, ◌+◌, ◌/◌, ◌%◌, ◌<◌, Bool, true, false, ◌&&◌, not, if◌then◌else◌, Option, Some, None, List, [], ◌∷◌, ◌++◌, length, map, refl, sym, ◌∙◌, ap, subst, arith}
-use Rattle.std.specs.Prelude.{Contains, is_some, option_and_then, position, bytes_eq, slice_get, slice_set, slice_index, slice_index_or}
+use Rattle.std.proofs.Common.{lit<, ◌≡◌, inl, ℕ, zero, suc, ◌+◌, ◌/◌, ◌%◌, ◌<◌, Bool, true, false, ◌&&◌, not, if◌then◌else◌, Option, Some, None, List, [], ◌∷◌, length, map, refl, sym, ◌∙◌, ap, subst, arith}
+use Rattle.std.specs.Prelude.{Contains, option_and_then, position, bytes_eq, slice_get, slice_set, slice_index, slice_index_or}
 use Rattle.std.proofs.Math.Nat.{mod-lt}
 use Rattle.std.proofs.lemmas.List.{length-set, length-map}
 use Rattle.ir_ast.specs.Plain.{Ty, integer, pointer, Val, local, global, number, null, poison, address}
@@ -12,17 +12,14 @@ use Rattle.ir_type.specs.Names.{entry_of, locals_in}
 use Rattle.ir_type.specs.Shape.{is_last}
 use Rattle.ir_type.specs.Whole.{Types, meant, is_scalar, is_same, is_odd, is_memory_width}
 use Rattle.ir_type.specs.Whole as types
-use Rattle.ir_type.proofs.Places.{no_place, at_place, same_second, place_below}
+use Rattle.ir_type.proofs.Places.{at_place, same_second, place_below}
 use Rattle.ir_typing.specs.Registers as registers
 use Rattle.ir_typing.specs.Registers.{Kind, kind_of, registers_of}
 use Rattle.ir_typing.specs.Places.{register_names}
-use Rattle.ir_typing.specs.Fits.{Scope, scope_of, whole_kind, fits, form_fits, fits_kind, fits_number, operands_fit, further, slot_at, slot_kind, access_by, access_fits, is_align}
+use Rattle.ir_typing.specs.Fits.{Scope, scope_of, whole_kind, fits, form_fits, fits_kind, slot_at, access_by, is_align}
 use Rattle.ir_check.specs.Checked.{IsChecked}
-use Rattle.ir_check.specs.Paths.{set_along}
 use Rattle.ir_whole.specs.Questions.{width_of}
 use Rattle.ir_value.specs.declared.value.Value.{Value}
-use Rattle.ir_code.specs.declared.program.Program.{Program}
-use Rattle.ir_machine.specs.declared.state.Held.{Held}
 use Rattle.ir_machine.specs.declared.state.Computed.{Computed}
 use Rattle.ir_machine.specs.declared.state.Computed.TheVariants.{Sets, Passes, Sticks, Lost}
 use Rattle.ir_machine.specs.declared.state.Written.{Written}
@@ -33,13 +30,13 @@ use Rattle.ir_machine.specs.Step.{act_on, after_store, after_slot, stored, slot_
 use Rattle.ir_resolve.specs.Operands.{input_of}
 use Rattle.ir_resolve.specs.Acts.{act_of, bytes_of, store_by, is_slot, slots_of, where_true, slot_place}
 use Rattle.ir_resolve.specs.Resolved.{step_of, program_of}
-use Rattle.ir_kernel.specs.Typed.{is_held, IsValueOf, IsSetTo, Holds}
+use Rattle.ir_kernel.specs.Typed.{is_held, IsValueOf, Holds}
 use Rattle.ir_kernel.specs.Steps.{AreBytes, HoldsSlot, IsWritten}
 use Rattle.ir_kernel.proofs.LoadTypes.{left_of, right_of, slot_of_kind, IsSlot, slot_there}
 use Rattle.ir_kernel.proofs.OperandTypes.{operand_holds, names_kept}
 use Rattle.ir_kernel.proofs.StoreTypes.{slot_holds, memory_written}
-use Rattle.ir_typed.proofs.RegisterKinds.{is_used, HoldsUsed, set_holds}
-use Rattle.ir_typed.proofs.Standing.{IsAt, IsFrame, MovesOn, moves_on, frame_moves}
+use Rattle.ir_typed.proofs.RegisterKinds.{HoldsUsed, set_holds}
+use Rattle.ir_typed.proofs.Standing.{MovesOn, moves_on, frame_moves}
 use Rattle.ir_typed.proofs.Using.{IsAtHand, at_hand}
 use Rattle.ir_typed.proofs.Keeping.{IsTyped, NextFits, no_more, goes}
 

@@ -1,10 +1,10 @@
 -- The registers that an instruction uses where it stands are set, and its operands are ready.
-use Rattle.std.proofs.Common.{◌≡◌, ◌⊎◌, inl, inr, ℕ, zero, suc, ◌<◌, Bool, true, false, ◌&&◌, not, Option, Some, None, List, [], ◌∷◌, ◌++◌, length, map, refl, sym, ◌∙◌, ap, subst, arith}
-use Rattle.std.specs.Prelude.{Contains, flat_map, is_some, bytes_eq}
+use Rattle.std.proofs.Common.{◌≡◌, ◌⊎◌, inl, inr, ℕ, zero, suc, Bool, true, false, ◌&&◌, not, Option, Some, None, List, [], ◌∷◌, ◌++◌, map, refl, sym, ◌∙◌, ap, subst, arith}
+use Rattle.std.specs.Prelude.{Contains, flat_map, is_some}
 use Rattle.std.specs.List.{list_all}
 use Rattle.std.proofs.lemmas.List.Concat.{flat_map-append}
-use Rattle.std.proofs.lemmas.List.Elements.{Contains-append_cases, Contains-append_left, Contains-append_right}
-use Rattle.ir_ast.specs.Plain.{Ty, Tys, nothing, integer, pointer, array, structure, packed, named, opaque, no_types, type_and, Val, Form, Indices, local, global, number, null, poison, address, form, no_indices, index_and}
+use Rattle.std.proofs.lemmas.List.Elements.{Contains-append_cases}
+use Rattle.ir_ast.specs.Plain.{Ty, integer, pointer, structure, no_types, type_and, Val, Form, Indices, local, global, number, null, poison, address, form, no_indices, index_and}
 use Rattle.ir_ast.specs.Program as plain
 use Rattle.ir_ast.specs.Program.{Act, InstrView, BlockView, FunctionView, ModuleView}
 use Rattle.ir_type.specs.Names.{entry_of, leaves_of, form_leaves_of, index_leaves_of, local_name, locals_in, globals_in}
@@ -14,12 +14,12 @@ use Rattle.ir_type.specs.Whole.{meant, is_scalar, is_same, has_odd, whole}
 use Rattle.ir_type.specs.Whole as types
 use Rattle.ir_typing.specs.Intrinsics.{number_and_bit}
 use Rattle.ir_typing.specs.Known.{is_known, knows_range, knows_callee}
-use Rattle.ir_typing.specs.Registers.{Kind, value_of, slot_of, pair_of, blocks_of, block_of, registers_of}
-use Rattle.ir_typing.specs.Fits.{Scope, scope_of, scope_by, fits, form_fits, indices_fit, fits_kind, steps_over, is_integer, operands_fit, further, is_phi, is_pair, pair_at, access_by, access_fits, slot_at, slot_kind, is_align, range_fits}
-use Rattle.ir_check.specs.Paths.{Use, uses, set_along}
+use Rattle.ir_typing.specs.Registers.{Kind, value_of, slot_of, pair_of, block_of, registers_of}
+use Rattle.ir_typing.specs.Fits.{Scope, scope_of, fits, form_fits, indices_fit, fits_kind, steps_over, is_integer, operands_fit, further, is_phi, is_pair, pair_at, access_by, access_fits, slot_at, is_align, range_fits}
+use Rattle.ir_check.specs.Paths.{Use, uses}
 use Rattle.ir_check.specs.Checked.{IsChecked}
 use Rattle.ir_check.specs.Rules.{IsPointerAccess}
-use Rattle.ir_check.proofs.Undefined.{Contains-map, of_map, of_flat_map, in_flat_map}
+use Rattle.ir_check.proofs.Undefined.{Contains-map, of_map, in_flat_map}
 use Rattle.ir_machine.specs.Values.{Registers}
 use Rattle.ir_kernel.specs.Typed.{IsReady}
 use Rattle.ir_kernel.specs.Steps.{IsFit}
@@ -208,7 +208,7 @@ module _ (m : ModuleView) (checked : IsChecked m) (f : FunctionView) (b : BlockV
   pub ready : (v : Val) → Contains (values i.act) v → IsReady m f rs v
   ready v c = record {
     set = λ x d k kind p e. used_here x (in_flat_map locals_in (values i.act) v x c d) k kind p e
-    (values_usable m f (list_all (λ i. is_phi i.act) before) (is_some i.result) i.act fit_operands fit_further v c x kind d e);
+        (values_usable m f (list_all (λ i. is_phi i.act) before) (is_some i.result) i.act fit_operands fit_further v c x kind d e);
     known = λ x d. globals_known m f i.act fit.known v c x d;
   }
 

@@ -1,9 +1,8 @@
 -- Whole runs of a kernel's functions, as the machine ends them and as a caller sees it.
-use Rattle.std.proofs.Common.{◌≡◌, ◌≢◌, ℕ, ◌<◌, ◌^◌, Bool, true, false, Option, Some, None, List, refl, sym, ◌∙◌, ap, subst}
-use Rattle.std.specs.Prelude.{slice_get}
-use Rattle.ir_ast.specs.Plain.{Ty, Tys, nothing, integer, pointer, array, structure, packed, named, opaque}
+use Rattle.std.proofs.Common.{◌≡◌, ◌≢◌, ℕ, ◌<◌, ◌^◌, true, false, Option, Some, None, List, refl, sym, ◌∙◌, ap, subst}
+use Rattle.ir_ast.specs.Plain.{Ty, nothing, integer, pointer}
 use Rattle.ir_ast.specs.Program.{FunctionView, ModuleView}
-use Rattle.ir_type.specs.Whole.{meant, is_pointer, is_void}
+use Rattle.ir_type.specs.Whole.{meant, is_pointer}
 use Rattle.ir_type.proofs.Places.{some_same}
 use Rattle.ir_value.specs.declared.value.Value.{Value}
 use Rattle.ir_value.specs.declared.value.Value.TheVariants.{Number, Null, Address, Poison}

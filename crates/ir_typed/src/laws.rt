@@ -1,6 +1,7 @@
 //! Laws of whole runs. A function here does nothing: its contract is the law.
 
 ghost use Rattle.std.specs.Prelude.{◌≡◌, ◌≢◌, ◌<◌, ◌^◌, ℕ, Option, None, Some, false, List};
+ghost use Rattle.std.specs.List.{All};
 ghost use Rattle.ir_ast.specs.Plain.{nothing, integer};
 ghost use Rattle.ir_ast.specs.Program.{FunctionView, ModuleView};
 ghost use Rattle.ir_type.specs.Whole.{meant, is_pointer};
@@ -14,6 +15,12 @@ ghost use Rattle.ir_kernel.specs.Runs.{IsRun};
 ghost use Rattle.ir_kernel.specs.Ends.{IsEndOfRun};
 ghost use Rattle.ir_kernel.specs.Steps.{AreBytes};
 ghost use Rattle.ir_typed.specs.Endings.{IsRunnable, IsFitCall, IsEndOf, IsSeenOf};
+
+/// Where each byte of each object is below 256, each byte at a place is, and the other way about.
+pub fn memories_are_of_bytes()
+    ensures from_all { (memory : List (List ℕ)) → All (λ o. All (λ b. b < 256) o) memory → AreBytes memory }
+    ensures to_all { (memory : List (List ℕ)) → AreBytes memory → All (λ o. All (λ b. b < 256) o) memory }
+{}
 
 /// A run of a function of a checked kernel, from numbers of its parameters and a memory of bytes, is not lost. Where it returns, its value
 /// is of the function's result and no poison, and its memory is one of bytes.
