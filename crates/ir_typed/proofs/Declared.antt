@@ -190,24 +190,24 @@ module _ (m : ModuleView) (checked : IsChecked m) (whole : FunctionView) (c : Ma
 
     -- ---- one class of intrinsics after the other
 
-    module _ (pair_kind_ : PairKind) (w : ℕ) (in_range : is_width w ≡ true) (no_pair : overflows (intrinsic_of name) ≡ false) (e : Asks (of_two pair_kind_ w)) where
+    module _ (of_kind : PairKind) (w : ℕ) (in_range : is_width w ≡ true) (no_pair : overflows (intrinsic_of name) ≡ false) (e : Asks (of_two of_kind w)) where
       made_comes : (r : Made) → MakesOf (integer w) r → Comes (computed_by r)
       made_comes (made.Gives v) x =
           sets (held.Value v) (subst (λ b. is_held (whole_kind m.types (if b then registers.pair_of over else registers.value_of over)) (held.Value v) ≡ true) (sym no_pair)
-          (same_of (meant m.types over) (integer w) v (result_same (of_two pair_kind_ w) e) x))
+          (same_of (meant m.types over) (integer w) v (result_same (of_two of_kind w) e) x))
       made_comes (made.Sticks r) x = tt
       made_comes made.Lost x = absurd x
 
-      pair_given : (o p : Option Value) → IsValueOf (integer w) o → IsValueOf (integer (second_width pair_kind_ w)) p → Comes (on_two (values.pair pair_kind_ w) o p)
+      pair_given : (o p : Option Value) → IsValueOf (integer w) o → IsValueOf (integer (second_width of_kind w)) p → Comes (on_two (values.pair of_kind w) o p)
       pair_given None p x y = absurd x
       pair_given (Some a) None x y = absurd y
-      pair_given (Some a) (Some b) x y = made_comes (values.pair pair_kind_ w a b) (pair_makes pair_kind_ w a b in_range x y)
+      pair_given (Some a) (Some b) x y = made_comes (values.pair of_kind w a b) (pair_makes of_kind w a b in_range x y)
 
-      two_come : Goes (pair_act m f pair_kind_ arguments)
+      two_come : Goes (pair_act m f of_kind arguments)
       two_come =
-          let h = have_two w (second_width pair_kind_ w) (arguments_same (of_two pair_kind_ w) e) in
-          subst (λ (xs : List (Ty × Val)). Goes (pair_act m f pair_kind_ xs)) (sym h.are)
-          (subst (λ n. Comes (on_two (values.pair pair_kind_ n) (input h.first) (input h.second))) (sym h.width) (pair_given (input h.first) (input h.second) h.one h.other))
+          let h = have_two w (second_width of_kind w) (arguments_same (of_two of_kind w) e) in
+          subst (λ (xs : List (Ty × Val)). Goes (pair_act m f of_kind xs)) (sym h.are)
+          (subst (λ n. Comes (on_two (values.pair of_kind n) (input h.first) (input h.second))) (sym h.width) (pair_given (input h.first) (input h.second) h.one h.other))
 
     module _ (flow : OverflowKind × Bool) (w : ℕ) (in_range : is_width w ≡ true) (is_pair : overflows (intrinsic_of name) ≡ true) (e : Asks (with_overflow w)) where
       both_come : (r q : Made) → MakesOf (integer w) r → MakesOf (integer 1) q → Comes (pair_by r q)

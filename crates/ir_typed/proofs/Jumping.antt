@@ -152,16 +152,16 @@ module _ (m : ModuleView) (checked : IsChecked m) (whole : FunctionView) (c : Ma
           let G : List ℕ → List (List ℕ) = λ x. results (instrs_of f x) in
           by (Contains-append_cases (parameter_names f ++ flat_map G (at.left ++ b.name ∷ [])) (results head_of_it.phis) x d)
         where
-          abbrev_front : Contains (parameter_names f ++ flat_map (λ x. results (instrs_of f x)) at.left) x → HoldsUsed m f rs x
-          abbrev_front d = at.set x (Contains-append_left (parameter_names f ++ flat_map (λ x. results (instrs_of f x)) at.left) (results typed.top.before) x d)
+          at_front : Contains (parameter_names f ++ flat_map (λ x. results (instrs_of f x)) at.left) x → HoldsUsed m f rs x
+          at_front d = at.set x (Contains-append_left (parameter_names f ++ flat_map (λ x. results (instrs_of f x)) at.left) (results typed.top.before) x d)
 
           left_cases : Contains (flat_map (λ x. results (instrs_of f x)) at.left) x ⊎ Contains (results (instrs_of f b.name) ++ []) x → HoldsUsed m f rs x
-          left_cases (inl d) = abbrev_front (Contains-append_right (parameter_names f) (flat_map (λ x. results (instrs_of f x)) at.left) x d)
+          left_cases (inl d) = at_front (Contains-append_right (parameter_names f) (flat_map (λ x. results (instrs_of f x)) at.left) x d)
           left_cases (inr d) =
               at_end x (Contains-append_right (parameter_names f ++ flat_map (λ x. results (instrs_of f x)) at.left) (results (instrs_of f b.name)) x (subst (λ xs. Contains xs x) (append-nil (results (instrs_of f b.name))) d))
 
           front_cases : Contains (parameter_names f) x ⊎ Contains (flat_map (λ x. results (instrs_of f x)) (at.left ++ b.name ∷ [])) x → HoldsUsed m f rs x
-          front_cases (inl d) = abbrev_front (Contains-append_left (parameter_names f) (flat_map (λ x. results (instrs_of f x)) at.left) x d)
+          front_cases (inl d) = at_front (Contains-append_left (parameter_names f) (flat_map (λ x. results (instrs_of f x)) at.left) x d)
           front_cases (inr d) =
               left_cases (Contains-append_cases (flat_map (λ x. results (instrs_of f x)) at.left) (results (instrs_of f b.name) ++ []) x
               (subst (λ xs. Contains xs x) (flat_map-append (λ x. results (instrs_of f x)) at.left (b.name ∷ [])) d))

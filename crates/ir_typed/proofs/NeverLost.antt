@@ -47,9 +47,6 @@ module _ (m : ModuleView) (checked : IsChecked m) (distinct : IsDistinct bytes_e
   act_fits : (c : Machine) (typed : IsTyped m whole c) → NextFits m whole (act_on (program_of m) c (step_of m typed.top.function typed.top.instr) (act_of m typed.top.function typed.top.instr.act))
   act_fits c typed = by typed.top.instr.act refl
     where
-      abbrev_goes : Type 0
-      abbrev_goes = NextFits m whole (act_on (program_of m) c (step_of m typed.top.function typed.top.instr) (act_of m typed.top.function typed.top.instr.act))
-
       clash : true ≡ false → ⊥
       clash e = cc
 

@@ -75,14 +75,14 @@ module _ (m : ModuleView) (checked : IsChecked m) (whole : FunctionView) where
       → MovesOn m caller.frame.function caller.frame.block caller.frame.before caller.frame.instr (with_value (result_place caller.frame.function caller.frame.instr.result) o fr.registers)
   caller_moves fr called caller o given = by o given
     where
-      abbrev_result : Kind
-      abbrev_result = if overflows (intrinsic_of caller.callee) then registers.pair_of caller.over else registers.value_of caller.over
+      result_kind : Kind
+      result_kind = if overflows (intrinsic_of caller.callee) then registers.pair_of caller.over else registers.value_of caller.over
 
       one : (k l : Kind) → Some k ≡ Some l → k ≡ l
       one k l e = cc
 
-      kind_is : (kind : Kind) → kind_of caller.frame.instr.act ≡ Some kind → abbrev_result ≡ kind
-      kind_is kind e = one abbrev_result kind (sym (ap kind_of caller.act) ∙ e)
+      kind_is : (kind : Kind) → kind_of caller.frame.instr.act ≡ Some kind → result_kind ≡ kind
+      kind_is kind e = one result_kind kind (sym (ap kind_of caller.act) ∙ e)
 
       not_last : is_last caller.frame.instr ≡ false
       not_last = ap (λ (a : Act). is_last (record caller.frame.instr { act = a })) caller.act

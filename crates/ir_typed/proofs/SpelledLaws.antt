@@ -1,10 +1,11 @@
 -- What the code tells of a module's functions is told of all their instructions.
 use Rattle.std.proofs.Common.{◌≡◌, ℕ, zero, suc, ◌+◌, Bool, true, false, ◌&&◌, Option, Some, None, option_map, List, [], ◌∷◌, drop, MatchBool, refl, sym, ◌∙◌, ap, subst, arith}
-use Rattle.std.specs.Prelude.{Contains, flat_map, option_to_list, slice_get}
-use Rattle.std.specs.List.{list_all}
+use Rattle.std.specs.Prelude.{Contains, flat_map, option_to_list, slice_get, bytes_eq}
+use Rattle.std.specs.List.{list_all, IsDistinct}
 use Rattle.std.proofs.lemmas.List.{append-nil}
 use Rattle.std.proofs.lemmas.List.Elements.{Contains-append_right}
 use Rattle.ir_ast.specs.Program.{InstrView, BlockView, FunctionView}
+use Rattle.ir_ast.specs.Table.{names_of}
 use Rattle.ir_ast.specs.ProgramView.{view_op, view_instr, view_block, view_blocks, view_function, view_module}
 use Rattle.ir_ast.specs.declared.instr.Instr.{Instr}
 use Rattle.ir_ast.specs.declared.instr.Block.{Block}
@@ -15,6 +16,8 @@ use Rattle.ir_type.specs.Items.{IsFunction}
 use Rattle.ir_type.proofs.Places.{some_same}
 use Rattle.ir_typing.specs.Registers.{blocks_of}
 use Rattle.ir_check.proofs.Undefined.{Contains-map, of_map}
+use Rattle.ir_check.specs.Checked.{IsChecked}
+use Rattle.ir_typed.specs.Endings.{IsRunnable}
 use Rattle.ir_typed.specs.Spelled.{is_spelled, AreSpelled}
 use Rattle.ir_typed.specs.SpelledCode.{are_instrs_spelled, are_blocks_spelled, is_body_spelled, are_functions_spelled}
 use Rattle.ir_typed.proofs.Using.{each_true}
@@ -93,3 +96,11 @@ told m false e = λ spelled. clash (e ∙ all_spelled m spelled)
   where
     clash : false ≡ true → ⊥
     clash e = cc
+
+pub runnable : (k c n : Module) (b : Bool) → c ≡ k → n ≡ c → IsChecked (view_module k) → IsDistinct bytes_eq (names_of (view_module k).functions)
+    → MatchBool b (AreSpelled (view_module n)) (AreSpelled (view_module n) → ⊥) → MatchBool b (IsRunnable (view_module k)) (IsRunnable (view_module k) → ⊥)
+runnable k c n b same is checked distinct h = by b (subst (λ (m : Module). MatchBool b (AreSpelled (view_module m)) (AreSpelled (view_module m) → ⊥)) (is ∙ same) h)
+  where
+    by : (b : Bool) → MatchBool b (AreSpelled (view_module k)) (AreSpelled (view_module k) → ⊥) → MatchBool b (IsRunnable (view_module k)) (IsRunnable (view_module k) → ⊥)
+    by true h = record { checked = checked; distinct = distinct; spelled = h }
+    by false h = λ r. h r.spelled

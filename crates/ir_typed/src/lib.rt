@@ -10,4 +10,4 @@ mod laws;
 mod spelling;
 
 pub use laws::{memories_are_of_bytes, runs_are_never_lost, seen_runs_are_never_lost};
-pub use spelling::are_spelled;
+pub use spelling::{are_spelled, is_runnable};

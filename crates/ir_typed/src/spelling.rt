@@ -7,8 +7,10 @@ ghost use Rattle.ir_ast.specs.ProgramView.{view_op, view_module};
 ghost use Rattle.ir_typed.specs.Spelled as definition;
 ghost use Rattle.ir_typed.specs.Spelled.{AreSpelled};
 ghost use Rattle.ir_typed.specs.SpelledCode as code;
+ghost use Rattle.ir_typed.specs.Endings.{IsRunnable};
 
 use ir_ast::{ArmList, Block, Function, FunctionTable, Instr, IrType, Module, Op};
+use ir_kernel::Kernel;
 
 /// Whether a type that is compared is no integer of a width beyond 64 or of none.
 fn has_width(over: &IrType) -> bool
@@ -98,4 +100,12 @@ pub fn are_spelled(kernel: &Module) -> bool
     ensures { MatchBool result (AreSpelled (view_module kernel.now)) (AreSpelled (view_module kernel.now) → ⊥) }
 {
     tell(kernel)
+}
+
+/// Whether no run of the functions of a kernel is lost, as the laws of runs ask. It takes time linear in the kernel and no memory.
+pub fn is_runnable(kernel: &Kernel) -> bool
+    ensures { MatchBool result (IsRunnable (view_module kernel.now)) (IsRunnable (view_module kernel.now) → ⊥) }
+{
+    let checked = kernel.checked();
+    are_spelled(checked.module())
 }
