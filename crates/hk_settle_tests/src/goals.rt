@@ -183,12 +183,7 @@ pub fn fives(alloc: Global, terms: &mut Terms, value: u64) -> Result<TermId, All
 }
 
 /// "The variable is this place, and the entry there is this number."
-pub fn entry_at(
-    terms: &mut Terms,
-    id: u32,
-    place: u64,
-    value: u64,
-) -> Result<TermId, AllocError>
+pub fn entry_at(terms: &mut Terms, id: u32, place: u64, value: u64) -> Result<TermId, AllocError>
     requires place { place < 2 ^ 8 }
     requires value { value < 2 ^ 8 }
     ensures within { IfOk result (λ t. t < length terms.new) }
@@ -228,11 +223,7 @@ pub fn lodged(
 }
 
 /// "The variables of each of these pairs differ", and what was to hold before.
-pub fn alone(
-    terms: &mut Terms,
-    pairs: &[(u32, u32)],
-    before: TermId,
-) -> Result<TermId, AllocError>
+pub fn alone(terms: &mut Terms, pairs: &[(u32, u32)], before: TermId) -> Result<TermId, AllocError>
     requires within { before < length terms.old }
     requires width { width terms.old before ≡ 1 }
     ensures within { IfOk result (λ t. t < length terms.new) }
