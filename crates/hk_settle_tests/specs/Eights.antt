@@ -2,7 +2,7 @@
 use Rattle.std.specs.Prelude.{◌≡◌, ℕ, ◌<◌, ◌≤◌, Bool, true, nat_eq, List, length}
 use Rattle.std.specs.List.{list_all}
 use Rattle.hk_term.specs.declared.node.Node.{Node}
-use Rattle.hk_term.specs.declared.node.Node.TheVariants.{Var, Select}
+use Rattle.hk_term.specs.declared.node.Node.TheVariants.{Const, Var, Select, Unary, Binary, Choose, Resize, ForAll}
 use Rattle.hk_term.specs.Inputs.{inputs_in}
 use Rattle.hk_term.specs.Shape.{width}
 
