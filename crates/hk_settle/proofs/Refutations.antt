@@ -1,5 +1,5 @@
 -- What a refuted list that is exact says of a goal.
-use Rattle.std.proofs.Common.{◌≡◌, ℕ, Bool, true, List, sym, ◌∙◌, ap, subst}
+use Rattle.std.proofs.Common.{◌≡◌, Bool, true, List, sym, ◌∙◌, ap, subst}
 use Rattle.std.specs.Prelude.{nat_eq}
 use Rattle.hk_term.specs.Meaning.{Reading, value}
 use Rattle.hk_cnf.specs.Clauses.{Clauses, IsUnsatisfiable}

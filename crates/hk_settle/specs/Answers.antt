@@ -1,12 +1,11 @@
 -- What settling a question comes to.
 use Rattle.std.specs.Prelude.{◌≡◌, ℕ, ◌+◌, ◌≤◌, Bool, nat_eq, List, length, None}
-use Rattle.hk_term.specs.Meaning.{Reading, reading_of, value}
+use Rattle.hk_term.specs.Meaning.{Reading, value}
 use Rattle.hk_term.specs.declared.valuation.Valuation.{Valuation}
 use Rattle.hk_cnf.specs.Clauses.{Clauses, IsUnsatisfiable}
 use Rattle.hk_lrat.specs.declared.log.LratRow.{LratRow}
 use Rattle.hk_lrat.specs.Log.{log_fault}
 use Rattle.hk_lrat.specs.Refutes.{Refutes}
-use Rattle.hk_cdcl.specs.Fresh.{IsSpent}
 use Rattle.hk_inst.specs.declared.instance.Instance.{Instance}
 use Rattle.hk_inst.specs.Questions.{Asked}
 use Rattle.hk_inst.specs.Exactness.{Exact}
