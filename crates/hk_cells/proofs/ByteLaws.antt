@@ -1,5 +1,5 @@
 -- A byte of a cell's number.
-use Rattle.std.proofs.Common.{◌≡◌, ℕ, zero, suc, ◌+◌, ◌*◌, ◌/◌, ◌%◌, ◌^◌, ◌<◌, refl, sym, ◌∙◌, ap, subst, arith}
+use Rattle.std.proofs.Common.{◌≡◌, ℕ, zero, suc, ◌*◌, ◌/◌, ◌%◌, ◌^◌, ◌<◌, ◌∙◌, ap, arith}
 use Rattle.ir_layout.specs.Bytes.{IsWidth}
 use Rattle.hk_symmem.proofs.Numbers.{bits_of_bytes}
 use Rattle.hk_symmem.proofs.Wholes.{by_width}

@@ -1,12 +1,11 @@
 -- Bytes that are cut out of cells.
-use Rattle.std.proofs.Common.{◌≡◌, ◌≢◌, ℕ, zero, suc, ◌+◌, ◌*◌, ◌/◌, ◌%◌, ◌^◌, ◌<◌, ◌≤◌, refl, sym, ◌∙◌, ap, subst, arith, add-one}
+use Rattle.std.proofs.Common.{◌≡◌, ℕ, ◌+◌, ◌*◌, ◌/◌, ◌%◌, ◌^◌, ◌<◌, ◌≤◌, sym, ◌∙◌, ap, subst, arith, add-one}
 use Rattle.std.specs.Prelude.{slice_index}
 use Rattle.std.proofs.Math.Nat.{mod-eq_of_lt}
 use Rattle.std.proofs.lemmas.List.FromFn.{get_or-map-range_with_len}
-use Rattle.ir_layout.specs.Bytes.{IsWidth, number_at}
+use Rattle.ir_layout.specs.Bytes.{number_at}
 use Rattle.hk_symmem.specs.Origins.{cells, cell_byte, object_from}
 use Rattle.hk_symmem.proofs.Numbers.{bits_of_bytes, number_more}
-use Rattle.hk_symmem.proofs.StateLaws.{some_bytes}
 
 -- numbers of bytes, one above the other
 pub bytes_above : (h l w b r : ℕ) → w ≡ 8 * b → r ≡ h * 2 ^ w + l → r ≡ h * 256 ^ b + l

@@ -1,10 +1,8 @@
 -- What stays through two steps stays through both.
-use Rattle.std.proofs.Common.{◌≡◌, ◌<◌, ◌≤◌, ◌++◌, ◌+◌, ℕ, Bool, true, false, List, [], ◌∷◌, length, refl, ap, sym, ◌∙◌, arith}
-use Rattle.std.specs.Prelude.{filter}
+use Rattle.std.proofs.Common.{◌≡◌, ◌<◌, ◌≤◌, ◌++◌, ℕ, List, [], length, refl, ap, sym, ◌∙◌, arith}
 use Rattle.std.proofs.lemmas.List.{append_assoc, append-nil}
 use Rattle.hk_term.specs.Shape.{width, Grows}
 use Rattle.hk_term.specs.Meaning.{Reading, value}
-use Rattle.hk_term.specs.Inputs.{is_input, inputs_in}
 use Rattle.hk_term.specs.declared.node.Node.{Node}
 use Rattle.hk_cells.specs.Growth.{Extends, IsWord}
 

@@ -1,7 +1,6 @@
 -- Objects whose bytes lie in cells.
-use Rattle.std.proofs.Common.{◌≡◌, ℕ, zero, suc, ◌+◌, ◌<◌, Bool, true, false, List, [], ◌∷◌, ◌++◌, map, length, Some, append_assoc, add-one, refl, sym, ◌∙◌, ap, subst, arith, drop}
-use Rattle.std.specs.Prelude.{slice_get, slice_index_or, if◌then◌else◌}
-use Rattle.std.specs.List.{All}
+use Rattle.std.proofs.Common.{◌≡◌, ℕ, zero, suc, ◌+◌, Bool, List, [], ◌∷◌, ◌++◌, map, length, Some, append_assoc, add-one, refl, sym, ◌∙◌, ap, subst, arith, drop}
+use Rattle.std.specs.Prelude.{slice_get}
 use Rattle.ir_ast.specs.Program.{GlobalView, ModuleView}
 use Rattle.ir_type.specs.Whole.{meant}
 use Rattle.ir_layout.specs.Bytes.{IsWidth, object_of}

@@ -1,6 +1,6 @@
 -- Cell sizes of some types.
 use Rattle.std.proofs.Common.{◌≡◌, [], ◌∷◌, refl}
-use Rattle.ir_ast.specs.Plain.{Ty, integer, array, structure, no_types, type_and}
+use Rattle.ir_ast.specs.Plain.{integer, array, structure, no_types, type_and}
 use Rattle.ir_layout.specs.Sizes.{size_of}
 use Rattle.hk_cells.specs.Cells.{leaves, IsCellSize}
 use Rattle.hk_cells.proofs.CellLaws.{cell_is}

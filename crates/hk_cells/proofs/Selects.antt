@@ -1,5 +1,5 @@
 -- How many entries of arrays are read, by how many inputs are.
-use Rattle.std.proofs.Common.{◌≡◌, ◌≤◌, ◌+◌, ℕ, suc, Bool, true, false, cond, List, [], ◌∷◌, ◌++◌, length, refl, sym, ◌∙◌, ap, subst, arith}
+use Rattle.std.proofs.Common.{◌≡◌, ◌≤◌, ◌+◌, ℕ, Bool, true, false, cond, List, [], ◌∷◌, ◌++◌, length, sym, subst, arith}
 use Rattle.std.specs.Prelude.{filter}
 use Rattle.hk_term.specs.Shape.{Grows}
 use Rattle.hk_term.specs.Inputs.{is_input, inputs_in}

@@ -1,10 +1,10 @@
 -- Numbers in whole cells.
-use Rattle.std.proofs.Common.{◌≡◌, ℕ, zero, suc, ◌+◌, ◌*◌, ◌/◌, ◌%◌, ◌^◌, ◌<◌, ◌≤◌, List, refl, sym, ◌∙◌, ap, subst, arith, add-one}
+use Rattle.std.proofs.Common.{◌≡◌, ℕ, zero, suc, ◌+◌, ◌*◌, ◌/◌, ◌%◌, ◌^◌, ◌<◌, ◌≤◌, List, sym, ◌∙◌, ap, subst, arith}
 use Rattle.std.specs.Prelude.{slice_index}
 use Rattle.std.proofs.Math.Nat.{mod-eq_of_lt, mod-mod}
 use Rattle.std.proofs.lemmas.Nat.{pow-add, mod-pow-add}
 use Rattle.ir_layout.specs.Bytes.{IsWidth, number_at}
-use Rattle.hk_symmem.specs.Origins.{cells, cell_byte, object_from}
+use Rattle.hk_symmem.specs.Origins.{cells, object_from}
 use Rattle.hk_symmem.proofs.Numbers.{bits_of_bytes, number_more}
 use Rattle.hk_symmem.proofs.Wholes.{by_width}
 use Rattle.hk_cells.proofs.CutLaws.{byte_there}

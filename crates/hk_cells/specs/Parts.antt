@@ -1,5 +1,5 @@
 -- What is kept of objects: that they are constants, or how their bytes lie in cells.
-use Rattle.std.specs.Prelude.{◌≡◌, ℕ, Bool, true, false, if◌then◌else◌, Option, Some, None, List, [], ◌∷◌}
+use Rattle.std.specs.Prelude.{◌≡◌, ℕ, Bool, if◌then◌else◌, Option, Some, None, List, [], ◌∷◌}
 use Rattle.ir_layout.specs.Bytes.{IsWidth, object_of}
 use Rattle.ir_layout.specs.declared.object.Object.{Object}
 use Rattle.hk_symmem.specs.Origins.{Origin, fixed, cells, object_from}

@@ -1,4 +1,4 @@
-use Rattle.std.proofs.Common.{rules, ◌≡◌, ℕ, ◌+◌, ◌*◌, ap, subst, arith, ◌∙◌}
+use Rattle.std.proofs.Common.{◌≡◌, ℕ, ◌+◌, ◌*◌, ap, subst, arith, ◌∙◌}
 use Rattle.hk_term.specs.Meaning.{value}
 use Rattle.ir_layout.specs.Bytes.{number_at}
 use Rattle.hk_symmem.specs.Origins.{cells, object_from}

@@ -1,12 +1,11 @@
-use Rattle.std.proofs.Common.{◌≡◌, ℕ, Some, ◌+◌, ◌/◌, ◌%◌, ◌<◌, ◌≤◌, length, ap, subst, sym, arith, ◌∙◌}
-use Rattle.std.specs.Prelude.{slice_get}
+use Rattle.std.proofs.Common.{◌≡◌, Some, ◌+◌, ◌/◌, ◌%◌, ◌≤◌, length, ap, subst, sym, arith, ◌∙◌}
 use Rattle.std.proofs.lemmas.List.FromFn.{length-map-range_with_len}
 use Rattle.hk_term.specs.Meaning.{value}
-use Rattle.ir_layout.specs.Bytes.{IsWidth, number_at}
-use Rattle.hk_symmem.specs.Origins.{cell_byte, cells}
+use Rattle.ir_layout.specs.Bytes.{number_at}
+use Rattle.hk_symmem.specs.Origins.{cell_byte}
 use Rattle.hk_cells.specs.Growth.{selects_in}
 use Rattle.hk_cells.specs.Multiples.{IsSeenMultiple}
-use Rattle.hk_cells.specs.Parts.{divided, IsKept}
+use Rattle.hk_cells.specs.Parts.{IsKept}
 use Rattle.hk_cells.proofs.PartLaws.{parts_count, divided_count, kept_width, constant_seen, cells_seen, origin_seen, no_cells, same_cells}
 use Rattle.hk_cells.proofs.reading.number_of.Goals as goal
 
