@@ -1,0 +1,9 @@
+pub mod ByteLaws
+pub mod CellLaws
+pub mod CutLaws
+pub mod Frames
+pub mod KeptLaws
+pub mod PartLaws
+pub mod Rows
+pub mod Selects
+pub mod WholeLaws
