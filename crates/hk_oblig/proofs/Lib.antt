@@ -1,0 +1,4 @@
+mod Turns
+mod CaseLaws
+mod UniformLaws
+mod TellingLaws

@@ -1,0 +1,4 @@
+pub mod Cases
+pub mod Uniform
+pub mod GoalTruths
+pub mod Telling
