@@ -26,7 +26,8 @@ pub record TellEach (nodes : List Node) (v : Reading) (terms : List ℕ) (named 
 -- one truth for each field, which tells whether all its entries agree
 pub record TellFields (nodes : List Node) (v : Reading) (terms : List ℕ) (s : Spec) (after wanted : List (List ℕ)) : Type 0 where
   pub count : length terms ≡ length s.fields
-  pub each : (f : ℕ) → f < length s.fields → IsTrue (is_true nodes (slice_index terms f) v) ↔ (slice_index_or after f [] ≡ slice_index_or wanted f [])
+  pub each : (f : ℕ) → f < length s.fields
+      → IsTrue (is_true nodes (slice_index terms f) v) ↔ (slice_index_or after f [] ≡ slice_index_or wanted f [])
 
 -- the term of the result is the returned number; there is none where nothing is returned
 abbrev pub TellsResult : List Node → Reading → Option ℕ → Option ℕ → Type 0
@@ -35,7 +36,8 @@ TellsResult nodes v (Some r) (Some n) = value nodes r v ≡ n
 TellsResult nodes v _ _ = ⊥
 
 -- what is told of a run that comes back with a value and a memory
-pub record TellsReturn (nodes : List Node) (v : Reading) (p : RunParts) (s : Spec) (t : Transition) (memory : Memory) (args : List ℕ) (returned : Option ℕ) (after : Memory) : Type 0 where
+pub record TellsReturn (nodes : List Node) (v : Reading) (p : RunParts) (s : Spec) (t : Transition) (memory : Memory) (args : List ℕ)
+    (returned : Option ℕ) (after : Memory) : Type 0 where
   pub defined : is_true nodes p.undefined v ≡ false
   pub kept : TellEach nodes v p.kept s.invariants (λ n. invariant_holds s n after)
   pub agree : TellFields nodes v p.agree s (abstraction s after) (specified s t memory args).state
@@ -48,7 +50,8 @@ TellsEnd nodes v p s t memory args (Stuck reason line) = is_true nodes p.undefin
 TellsEnd nodes v p s t memory args Lost = ⊥
 
 -- what the parts tell of a machine state with arguments: the run from them ends, and each end of it is told
-pub record TellsRun (m : ModuleView) (nodes : List Node) (v : Reading) (p : RunParts) (s : Spec) (t : Transition) (memory : Memory) (args : List ℕ) : Type 0 where
+pub record TellsRun (m : ModuleView) (nodes : List Node) (v : Reading) (p : RunParts) (s : Spec) (t : Transition) (memory : Memory)
+    (args : List ℕ) : Type 0 where
   pub invariants : IsTrue (is_true nodes p.invariants v) ↔ meaning.Invariant s memory
   pub ends : (end : RunEnd) × IsEndOfRun m t.function args memory end
   pub end : (end : RunEnd) → IsEndOfRun m t.function args memory end → TellsEnd nodes v p s t memory args end
@@ -56,7 +59,8 @@ pub record TellsRun (m : ModuleView) (nodes : List Node) (v : Reading) (p : RunP
   pub wanted : option_map (λ k. value nodes k v) p.wanted ≡ (specified s t memory args).result
 
 -- what the parts tell of an abstract state with arguments
-pub record TellsStep (nodes : List Node) (v : Reading) (p : StepParts) (s : Spec) (t : Transition) (state : List (List ℕ)) (args : List ℕ) : Type 0 where
+pub record TellsStep (nodes : List Node) (v : Reading) (p : StepParts) (s : Spec) (t : Transition) (state : List (List ℕ))
+    (args : List ℕ) : Type 0 where
   pub properties : IsTrue (is_true nodes p.properties v) ↔ HaveProperties s state
   pub behind : TellEach nodes v p.behind s.properties (λ n. property_holds s n (transition s t state args).state)
 
