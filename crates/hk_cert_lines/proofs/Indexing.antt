@@ -1,5 +1,5 @@
 -- Indices of an entry, one key at a time.
-use Rattle.std.proofs.Common.{◌≡◌, ◌+◌, ◌<◌, ℕ, Bool, true, false, List, [], ◌∷◌, ◌++◌, Option, Some, None, map, drop, length, get_or, ap, sym, ◌∙◌, add-one, refl}
+use Rattle.std.proofs.Common.{◌≡◌, ◌+◌, ◌<◌, ℕ, Bool, true, false, List, [], ◌∷◌, ◌++◌, Some, None, map, drop, length, get_or, ap, sym, ◌∙◌, add-one}
 use Rattle.std.proofs.lemmas.Bool.{cond-true, cond-false}
 use Rattle.std.proofs.Math.Seq.{drop-cons}
 use Rattle.spec_tree.specs.declared.sort.Sort.{Sort}

@@ -1,8 +1,8 @@
 -- The lines of handlers and of proofs: what each says where it is due, or the least reason against it.
-use Rattle.std.specs.Prelude.{ℕ, ◌^◌, ◌-◌, Bool, true, false, not, ◌&&◌, ◌||◌, if◌then◌else◌, List, [], ◌∷◌, Option, Some, None, Result, Ok, Err, codes, bytes_eq, slice_get}
+use Rattle.std.specs.Prelude.{ℕ, Bool, true, false, ◌||◌, if◌then◌else◌, List, [], ◌∷◌, Option, Some, None, Result, Ok, Err, codes, bytes_eq, slice_get}
 use Rattle.std.specs.List.{find}
 use Rattle.std.specs.Cmp.Lexicographic.{pointwise}
-use Rattle.hk_cnf.specs.Text.{words_of, natural_of}
+use Rattle.hk_cnf.specs.Text.{words_of}
 use Rattle.spec_tree.specs.Plain.{Transition, Spec}
 use Rattle.hk_case.specs.declared.Obligation.{Obligation}
 use Rattle.hk_case.specs.declared.Obligation.TheVariants.{Undefined, Invariant, State, ResultValue, Property}
@@ -11,7 +11,7 @@ use Rattle.hk_cert_lines.specs.declared.reason.CertReason.{CertReason}
 use Rattle.hk_cert_lines.specs.declared.reason.CertReason.TheVariants.{Q1, Q2, Q3}
 use Rattle.hk_cert_lines.specs.declared.handlers.Claim.{Claim}
 use Rattle.hk_cert_lines.specs.declared.handlers.Claim.TheVariants.{Accept, Reject, Unknown, Memory}
-use Rattle.hk_cert_lines.specs.Words.{is_spaced, is_word, is_name, is_handler_name, is_decimal}
+use Rattle.hk_cert_lines.specs.Words.{is_spaced, is_word, is_name, is_handler_name}
 
 -- ---- obligations
 

@@ -1,5 +1,5 @@
 -- One element's text behind those of the elements before it, and elements of two lists side by side.
-use Rattle.std.proofs.Common.{ℕ, zero, suc, ◌≡◌, ◌≤◌, ◌<◌, ◌+◌, List, [], ◌∷◌, ◌++◌, min, map, length, length-append, take, get_or, ap, sym, subst, ◌∙◌, arith, refl, append_assoc}
+use Rattle.std.proofs.Common.{ℕ, zero, suc, ◌≡◌, ◌≤◌, ◌<◌, ◌+◌, List, [], ◌∷◌, ◌++◌, min, map, length, length-append, take, get_or, ap, sym, ◌∙◌, arith, refl, append_assoc}
 use Rattle.std.proofs.lemmas.List.{append-nil, take_more, take_all, length-map}
 use Rattle.std.proofs.lemmas.List.Concat.{flat_map-append}
 use Rattle.std.proofs.lemmas.Slice.Zip.{length-zip, get_or-zip}
