@@ -1,0 +1,6 @@
+use Rattle.std.proofs.Common.{◌≡◌}
+use Rattle.hk_cert.specs.States.{zeros}
+use Rattle.hk_cert.proofs.states.zeros.Given as goal
+
+abbrev pub invariant-loop-k : goal.invariant-loop-k
+invariant-loop-k l = l.zeros.items ≡ zeros l._k

@@ -1,0 +1,4 @@
+pub mod Blocks
+pub mod Handlers
+pub mod Shown
+pub mod Words
