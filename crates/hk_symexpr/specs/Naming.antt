@@ -15,8 +15,8 @@ use Rattle.hk_symexpr.specs.declared.names.NamedTerm.{NamedTerm}
 use Rattle.hk_symexpr.specs.declared.names.Limit.{Limit}
 
 -- what may be named: the arguments and local names by their widths, the variables by their sizes
-abbrev pub context_of : Context → Names → List ℕ → Context
-context_of c n sizes = record c { args = map (λ a. a.width) n.args.now; locals = map (λ a. a.width) n.locals.now; bounds = sizes }
+abbrev pub context_of : Context → Names → Context
+context_of c n = record c { args = map (λ a. a.width) n.args.now; locals = map (λ a. a.width) n.locals.now; bounds = n.sizes.now }
 
 -- a name's term stands in the list, at the name's width
 pub record IsNamed (nodes : List Node) (a : NamedTerm) : Type 0 where

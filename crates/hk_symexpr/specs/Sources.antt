@@ -21,9 +21,9 @@ pub record Agrees (limit : ℕ) (v u : Reading) : Type 0 where
   pub entry : u.entry ≡ v.entry
   pub var : (id : ℕ) → id < limit → u.var id ≡ v.var id
 
--- the second list has the terms of the first, with their widths and values
+-- the second list has the terms of the first, with their widths and values; what the first grew from, the second grew from
 pub record Keeps (old new : List Node) : Type 0 where
   pub longer : length old ≤ length new
   pub widths : (k : ℕ) → k < length old → width new k ≡ width old k
   pub values : (k : ℕ) → k < length old → (v : Reading) → value new k v ≡ value old k v
-  pub grows : Grows old new
+  pub grows : (first : List Node) → Grows first old → Grows first new

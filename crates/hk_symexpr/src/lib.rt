@@ -7,6 +7,7 @@
 
 mod conditions;
 mod names;
+mod ops;
 mod reads;
 mod term;
 

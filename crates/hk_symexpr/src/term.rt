@@ -30,12 +30,12 @@ pub fn term_of<R: SymReads>(
     requires ids { names.now.base + length names.now.sizes.now ≤ R.limit reads.now }
     requires fields { All IsFieldSort (R.named reads.now).fields }
     requires objects { All (λ n. n < 2 ^ 64) (R.named reads.now).objects }
-    requires sorted { IsSorted (context_of (R.named reads.now) names.now names.now.sizes.now) (view_expr e.now) }
+    requires sorted { IsSorted (context_of (R.named reads.now) names.now) (view_expr e.now) }
     ensures within { IfOk result (λ r. r < length t.new) }
-    ensures width { IfOk result (λ r. width t.new r ≡ width_of (context_of (R.named reads.now) names.now names.now.sizes.now) (view_expr e.now)) }
+    ensures width { IfOk result (λ r. width t.new r ≡ width_of (context_of (R.named reads.now) names.now) (view_expr e.now)) }
     ensures value { IfOk result (λ r. (v : Reading) (env : Env) →
-        Suits (R.source reads.now t.old) (context_of (R.named reads.now) names.now names.now.sizes.now) t.old names.now v env →
-        value t.new r v ≡ tree.value (context_of (R.named reads.now) names.now names.now.sizes.now) env (view_expr e.now)) }
+        Suits (R.source reads.now t.old) (context_of (R.named reads.now) names.now) t.old names.now v env →
+        value t.new r v ≡ tree.value (context_of (R.named reads.now) names.now) env (view_expr e.now)) }
     ensures keeps_widths { (k : ℕ) → k < length t.old → width t.new k ≡ width t.old k }
     ensures keeps_values { (k : ℕ) → k < length t.old → (v : Reading) → value t.new k v ≡ value t.old k v }
     ensures longer { length t.old ≤ length t.new }
