@@ -1,3 +1,4 @@
 pub mod Sources
+pub mod Scope
 pub mod Naming
 pub mod Made

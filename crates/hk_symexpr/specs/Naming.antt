@@ -10,13 +10,13 @@ use Rattle.spec_tree.specs.Sorted.{Context}
 use Rattle.spec_tree.specs.Value.{Env}
 use Rattle.spec_tree.specs.Shapes.{AreBelow, IsMemory}
 use Rattle.hk_symexpr.specs.Sources.{Source, Agrees}
-use Rattle.hk_symexpr.specs.declared.names.Names.{Names}
+use Rattle.hk_symexpr.specs.Scope.{Scope}
 use Rattle.hk_symexpr.specs.declared.names.NamedTerm.{NamedTerm}
 use Rattle.hk_symexpr.specs.declared.names.Limit.{Limit}
 
 -- what may be named: the arguments and local names by their widths, the variables by their sizes
-abbrev pub context_of : Context → Names → Context
-context_of c n = record c { args = map (λ a. a.width) n.args.now; locals = map (λ a. a.width) n.locals.now; bounds = n.sizes.now }
+abbrev pub context_of : Context → Scope → Context
+context_of c s = record c { args = map (λ a. a.width) s.args; locals = map (λ a. a.width) s.locals; bounds = s.sizes }
 
 -- a name's term stands in the list, at the name's width
 pub record IsNamed (nodes : List Node) (a : NamedTerm) : Type 0 where
@@ -24,11 +24,11 @@ pub record IsNamed (nodes : List Node) (a : NamedTerm) : Type 0 where
   pub width_is : width nodes a.term ≡ a.width
 
 -- the list holds the terms of all names
-pub record AreNames (nodes : List Node) (n : Names) : Type 0 where
-  pub args : All (IsNamed nodes) n.args.now
-  pub locals : All (IsNamed nodes) n.locals.now
-  pub keys : All (λ k. k < length nodes) n.keys.now
-  pub known : All (λ l. l.term < length nodes) n.known.now
+pub record AreNames (nodes : List Node) (s : Scope) : Type 0 where
+  pub args : All (IsNamed nodes) s.args
+  pub locals : All (IsNamed nodes) s.locals
+  pub keys : All (λ k. k < length nodes) s.keys
+  pub known : All (λ l. l.term < length nodes) s.known
 
 -- one index for each key, of its width
 abbrev pub AreIndexTerms : List Node → List Key → List Limit → Type 0
@@ -67,15 +67,15 @@ bounds_at nodes (k ∷ ks) id [] v = []
 bounds_at nodes (k ∷ ks) id (n ∷ ns) v = value nodes k v ∷ bounds_at nodes ks (id + 1) ns v
 
 -- under a reading this is what an expression reads: memory has its bytes, each variable is below its size, and what is known holds
-pub record IsRead (source : Reading → Source) (c : Context) (nodes : List Node) (n : Names) (v : Reading) (env : Env) : Type 0 where
+pub record IsRead (source : Reading → Source) (c : Context) (nodes : List Node) (s : Scope) (v : Reading) (env : Env) : Type 0 where
   pub read : source v ≡ record { old = env.old; new = env.new; memory = env.memory }
   pub memory : c.kernel ≡ true → IsMemory c.objects env.memory
-  pub args : env.args ≡ name_values nodes n.args.now v
-  pub locals : env.locals ≡ name_values nodes n.locals.now v
-  pub bounds : env.bounds ≡ bounds_at nodes n.keys.now n.base c.bounds v
-  pub below : AreBelow c.bounds env.bounds
-  pub known : AreLimited nodes n.known.now v
+  pub args : env.args ≡ name_values nodes s.args v
+  pub locals : env.locals ≡ name_values nodes s.locals v
+  pub bounds : env.bounds ≡ bounds_at nodes s.keys s.base s.sizes v
+  pub below : AreBelow s.sizes env.bounds
+  pub known : AreLimited nodes s.known v
 
 -- and it is so under all readings that differ in variables alone that are in no scope: nothing that is read depends on these
-abbrev pub Suits : (Reading → Source) → Context → List Node → Names → Reading → Env → Type 0
-Suits source c nodes n v env = (u : Reading) → Agrees (n.base + length c.bounds) v u → IsRead source c nodes n u env
+abbrev pub Suits : (Reading → Source) → Context → List Node → Scope → Reading → Env → Type 0
+Suits source c nodes s v env = (u : Reading) → Agrees (s.base + length s.sizes) v u → IsRead source c nodes s u env

@@ -7,6 +7,7 @@
 
 mod conditions;
 mod names;
+mod operators;
 mod ops;
 mod reads;
 mod term;
