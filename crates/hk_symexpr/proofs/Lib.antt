@@ -1,2 +1,4 @@
 mod Frames
 mod Suiting
+mod Tuples
+mod Leaves

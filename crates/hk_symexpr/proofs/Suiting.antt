@@ -37,7 +37,7 @@ read_here source c nodes s v env h = h v (agrees_self (s.base + length s.sizes) 
 
 names_kept : (old new : List Node) → Keeps old new → (names : List NamedTerm) → All (IsNamed old) names → (v : Reading) → name_values new names v ≡ name_values old names v
 names_kept old new k [] h v = refl
-names_kept old new k (a ∷ as) h v = λ i. k.values a.term (All-head (IsNamed old) a as h).within v i ∷ names_kept old new k as (All-tail (IsNamed old) a as h) v i
+names_kept old new k (a ∷ rest) h v = λ i. k.values a.term (All-head (IsNamed old) a rest h).within v i ∷ names_kept old new k rest (All-tail (IsNamed old) a rest h) v i
 
 bounds_kept : (old new : List Node) → Keeps old new → (keys : List ℕ) → All (λ t. t < length old) keys → (id : ℕ) (sizes : List ℕ) (v : Reading) → bounds_at new keys id sizes v ≡ bounds_at old keys id sizes v
 bounds_kept old new k [] h id sizes v = refl
@@ -45,7 +45,7 @@ bounds_kept old new k (t ∷ ts) h id [] v = refl
 bounds_kept old new k (t ∷ ts) h id (n ∷ ns) v =
     λ i. k.values t (All-head (λ q. q < length old) t ts h) v i ∷ bounds_kept old new k ts (All-tail (λ q. q < length old) t ts h) (id + 1) ns v i
 
-limits_kept : (old new : List Node) → Keeps old new → (limits : List Limit) → All (λ l. l.term < length old) limits → (v : Reading) → AreLimited old limits v → AreLimited new limits v
+pub limits_kept : (old new : List Node) → Keeps old new → (limits : List Limit) → All (λ l. l.term < length old) limits → (v : Reading) → AreLimited old limits v → AreLimited new limits v
 limits_kept old new k limits h v below = λ j d low. subst (λ n. n ≤ (get_or limits j d).most) (sym (k.values (get_or limits j d).term (h j d low) v)) (below j d low)
 
 named_kept : (old new : List Node) → Keeps old new → (names : List NamedTerm) → All (IsNamed old) names → All (IsNamed new) names

@@ -6,6 +6,7 @@
 #![tactic(auto)]
 
 mod conditions;
+mod leaf;
 mod names;
 mod operators;
 mod ops;

@@ -20,6 +20,14 @@ pub(crate) fn sized(t: &Terms, a: TermId) -> u32
     t.width(a)
 }
 
+/// The greatest number of a width.
+pub(crate) fn greatest(w: u32) -> u64
+    requires { IsWidth w }
+    ensures { result ≡ 2 ^ w - 1 }
+{
+    u64::MAX >> (64 - w)
+}
+
 /// The number of a constant.
 pub(crate) fn constant(t: &Terms, a: TermId) -> Option<u64>
     requires { a < length t.now }
