@@ -2,3 +2,4 @@ pub mod Sources
 pub mod Scope
 pub mod Naming
 pub mod Made
+pub mod Paths

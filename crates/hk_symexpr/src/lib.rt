@@ -10,6 +10,8 @@ mod leaf;
 mod names;
 mod operators;
 mod ops;
+mod path;
+mod quantify;
 mod reads;
 mod term;
 
