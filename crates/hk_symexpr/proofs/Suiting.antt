@@ -10,7 +10,7 @@ use Rattle.spec_tree.specs.Value.{Env}
 use Rattle.hk_symexpr.specs.Sources.{Source, Agrees, Keeps}
 use Rattle.hk_symexpr.specs.Scope.{Scope}
 use Rattle.hk_symexpr.specs.Naming.{IsNamed, AreNames, IsRead, Suits, name_values, bounds_at, variables_from, AreLimited}
-use Rattle.hk_symexpr.specs.Made.{Ready, Lasts, IsTermOf, AreTermsOf}
+use Rattle.hk_symexpr.specs.Made.{Ready, Lasts, IsTermOf, IsLimitOf, AreLimitsOf}
 use Rattle.hk_symexpr.specs.declared.names.NamedTerm.{NamedTerm}
 use Rattle.hk_symexpr.specs.declared.names.Limit.{Limit}
 use Rattle.hk_symexpr.proofs.Frames.{followed, unchanged}
@@ -87,11 +87,18 @@ term_kept source c old s new newer r e k h =
       value_is = λ v env suits. k.values r h.within v ∙ h.value_is v env suits;
     }
 
-pub terms_kept : (source : Reading → Source) (c : Context) (old : List Node) (s : Scope) (new newer : List Node) (rs : List ℕ) (es : Trees) → Keeps new newer → AreTermsOf source c old s new rs es → AreTermsOf source c old s newer rs es
-terms_kept source c old s new newer [] no_trees k h = h
-terms_kept source c old s new newer [] (tree_and e es) k h = h
-terms_kept source c old s new newer (r ∷ rs) no_trees k h = h
-terms_kept source c old s new newer (r ∷ rs) (tree_and e es) k h = (term_kept source c old s new newer r e k h.0, terms_kept source c old s new newer rs es k h.1)
+pub limit_kept : (source : Reading → Source) (c : Context) (old : List Node) (s : Scope) (new newer : List Node) (l : Limit) (e : Tree) → Keeps new newer → IsLimitOf source c old s new l e → IsLimitOf source c old s newer l e
+limit_kept source c old s new newer l e k h =
+    record {
+      term = term_kept source c old s new newer l.term e k h.term;
+      most = λ v env suits. subst (λ n. n ≤ l.most) (sym (k.values l.term h.term.within v)) (h.most v env suits);
+    }
+
+pub limits_are_kept : (source : Reading → Source) (c : Context) (old : List Node) (s : Scope) (new newer : List Node) (ls : List Limit) (es : Trees) → Keeps new newer → AreLimitsOf source c old s new ls es → AreLimitsOf source c old s newer ls es
+limits_are_kept source c old s new newer [] no_trees k h = h
+limits_are_kept source c old s new newer [] (tree_and e es) k h = h
+limits_are_kept source c old s new newer (l ∷ ls) no_trees k h = h
+limits_are_kept source c old s new newer (l ∷ ls) (tree_and e es) k h = (limit_kept source c old s new newer l e k h.0, limits_are_kept source c old s new newer ls es k h.1)
 
 -- what was made from a longer list, as made from the old one
 pub term_from : (old_source : Reading → Source) (old : List Node) (source : Reading → Source) (mid : List Node) (s : Scope) (c : Context) (new : List Node) (r : ℕ) (e : Tree) → Lasts old_source old source mid s → IsTermOf source c mid s new r e → IsTermOf old_source c old s new r e

@@ -20,3 +20,7 @@ scope_of n = record { args = n.args.now; locals = n.locals.now; keys = n.keys.no
 -- variables of these sizes more
 abbrev pub entered : Scope → List ℕ → Scope
 entered s sizes = record s { sizes = s.sizes ++ sizes }
+
+-- with this known of terms
+abbrev pub knowing : Scope → List Limit → Scope
+knowing s known = record s { known = known }

@@ -6,7 +6,9 @@
 #![tactic(auto)]
 
 mod conditions;
+mod known;
 mod leaf;
+mod load;
 mod names;
 mod operators;
 mod ops;
