@@ -2,3 +2,4 @@ mod Frames
 mod Suiting
 mod Tuples
 mod Leaves
+mod Joins

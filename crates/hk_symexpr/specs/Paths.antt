@@ -1,7 +1,8 @@
 -- Where the steps of a path lead, by the numbers of their indices.
 use Rattle.std.specs.Prelude.{◌≡◌, ℕ, ◌+◌, ◌*◌, ◌%◌, ◌^◌, ◌<◌, ◌&&◌, Bool, Option, Some, None, if◌then◌else◌, nat_lt, List, [], ◌∷◌, length}
 use Rattle.hk_term.specs.declared.node.Node.{Node}
-use Rattle.spec_tree.specs.Plain.{Steps, no_steps, step_and}
+use Rattle.spec_tree.specs.Plain.{Tree, path, Steps, no_steps, step_and}
+use Rattle.spec_tree.specs.View.{Place}
 use Rattle.hk_symexpr.specs.declared.names.Limit.{Limit}
 
 -- one index of the list for each step
@@ -15,3 +16,7 @@ abbrev pub led : Bool → ℕ → Steps → List ℕ → Option ℕ
 led inside at no_steps is = if inside then Some at else None
 led inside at (step_and count stride e steps) [] = None
 led inside at (step_and count stride e steps) (i ∷ is) = led (inside && nat_lt i count) ((at + i * stride % 2 ^ 64) % 2 ^ 64) steps is
+
+-- the number at a place of the kernel's memory
+abbrev pub path_tree : Place → Tree
+path_tree p = path p.object p.base p.steps p.bytes

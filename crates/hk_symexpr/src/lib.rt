@@ -6,6 +6,7 @@
 #![tactic(auto)]
 
 mod conditions;
+mod join;
 mod known;
 mod leaf;
 mod load;

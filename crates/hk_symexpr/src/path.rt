@@ -96,6 +96,7 @@ pub(crate) fn lead_of(
     ensures address { IfOk result (λ r. width t.new r.offset ≡ 64) }
     ensures value { IfOk result (λ r. (v : Reading) → AreLimited t.old index.now v →
         led true base (view_steps steps.now) (index_values t.old index.now v) ≡ (if holds (value t.new r.inside v) then Some (value t.new r.offset v) else None)) }
+    ensures base { base < 2 ^ 64 }
     ensures keeps { Keeps t.old t.new }
 {
     let inside = number(t, 1, 1)?;
