@@ -3,3 +3,4 @@ mod Suiting
 mod Tuples
 mod Leaves
 mod Joins
+mod Walks

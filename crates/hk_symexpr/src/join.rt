@@ -8,12 +8,12 @@ ghost use Rattle.spec_tree.specs.Plain as plain;
 ghost use Rattle.spec_tree.specs.Plain.{Tree, Trees};
 ghost use Rattle.spec_tree.specs.Sorted as sorting;
 ghost use Rattle.spec_tree.specs.Sorted.{Context, IsWidth, IsSorted, FitsUn, FitsClass, FitsResize, class_of, with_bounds, no_field};
-ghost use Rattle.spec_tree.specs.View.{view_path};
+ghost use Rattle.spec_tree.specs.View.{view_steps};
 ghost use Rattle.hk_symexpr.specs.Sources.{Source, Keeps};
 ghost use Rattle.hk_symexpr.specs.Scope.{scope_of, entered};
 ghost use Rattle.hk_symexpr.specs.Naming.{AreIndexTerms, context_of};
 ghost use Rattle.hk_symexpr.specs.Made.{Ready, Lasts, IsTermOf, IsTermWhere, AreLimitsOf, step_trees};
-ghost use Rattle.hk_symexpr.specs.Paths.{AreIndexed, path_tree};
+ghost use Rattle.hk_symexpr.specs.Paths.{AreIndexed};
 
 use crate::load::{lasting, load_at};
 use crate::names::{Limit, Names};
@@ -22,7 +22,7 @@ use crate::reads::SymReads;
 use crate::{operators, ops, quantify};
 use hk_term::{TermId, Terms};
 use spec_ast::{BinKind, UnKind};
-use spec_tree::{Path, ResizeKind, StateName};
+use spec_tree::{PathStep, ResizeKind, StateName};
 use std::alloc::{AllocError, Global};
 
 /// A number.
@@ -223,20 +223,23 @@ pub(crate) fn path<R: SymReads>(
     t: &mut Terms,
     reads: &R,
     names: &Names,
-    path: &Path,
+    object: u32,
+    base: u64,
+    steps: &[PathStep],
+    bytes: u32,
     index: &[Limit],
 ) -> Result<TermId, AllocError>
     requires over { R.is_over reads.now t.old }
     requires ready { Ready (R.named reads.now) (R.limit reads.now) t.old (scope_of names.now) }
-    requires sorted { IsSorted (context_of (R.named reads.now) (scope_of names.now)) (path_tree (view_path path.now)) }
-    requires index { AreIndexed t.old (view_path path.now).steps index.now }
-    ensures term { IfOk result (λ r. (base : Reading → Source) (old : List Node) → Lasts base old (R.source reads.now t.old) t.old (scope_of names.now) →
-        AreLimitsOf base (context_of (R.named reads.now) (scope_of names.now)) old (scope_of names.now) t.old index.now (step_trees (view_path path.now).steps) → IsTermOf base (context_of (R.named reads.now) (scope_of names.now)) old (scope_of names.now) t.new r (path_tree (view_path path.now))) }
+    requires sorted { IsSorted (context_of (R.named reads.now) (scope_of names.now)) (plain.path object base (view_steps steps.now) bytes) }
+    requires index { AreIndexed t.old (view_steps steps.now) index.now }
+    ensures term { IfOk result (λ r. (first : Reading → Source) (old : List Node) → Lasts first old (R.source reads.now t.old) t.old (scope_of names.now) →
+        AreLimitsOf first (context_of (R.named reads.now) (scope_of names.now)) old (scope_of names.now) t.old index.now (step_trees (view_steps steps.now)) → IsTermOf first (context_of (R.named reads.now) (scope_of names.now)) old (scope_of names.now) t.new r (plain.path object base (view_steps steps.now) bytes)) }
     ensures keeps { Keeps t.old t.new }
 {
     lasting(t, reads, names);
-    let lead = lead_of(t, path.base, path.steps.items.as_slice(), index)?;
+    let lead = lead_of(t, base, steps, index)?;
     let _offset = ops::sized(t, lead.offset);
-    let made = load_at(alloc, t, reads, path.object, path.bytes, lead)?;
+    let made = load_at(alloc, t, reads, object, bytes, lead)?;
     Ok(made)
 }

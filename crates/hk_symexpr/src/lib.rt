@@ -5,6 +5,7 @@
 //! expression has over what is read then. Quantifiers become quantifiers over variables whose ids go by their places.
 #![tactic(auto)]
 
+mod build;
 mod conditions;
 mod join;
 mod known;
