@@ -259,7 +259,7 @@ pub path_is : (base src mid_src : Reading → Source) (named : Context) (s : Sco
     → ((v : Reading) → terms.value mid offset v < 2 ^ 64)
     → r < length new → width new r ≡ 8 * bytes
     → ((v : Reading) → IsMemory named.objects (mid_src v).memory → (holds (terms.value mid inside v) ≡ true → terms.value mid offset v + bytes ≤ length (slice_index_or (mid_src v).memory o []))
-        → terms.value new r v ≡ (if holds (terms.value mid inside v) then load (slice_index_or (mid_src v).memory o []) (terms.value mid offset v) bytes else 0))
+    → terms.value new r v ≡ (if holds (terms.value mid inside v) then load (slice_index_or (mid_src v).memory o []) (terms.value mid offset v) bytes else 0))
     → IsTermOf base (context_of named s) old s new r (path o begin steps bytes)
 path_is base src mid_src named s old t mid new o begin bytes inside offset r steps ls objects sorted lasts limits same leads low within wide is =
     let c : Context = context_of named s in
@@ -274,8 +274,8 @@ path_is base src mid_src named s old t mid new o begin bytes inside offset r ste
           let g = get_there named.objects o sorted.1 sorted.2 in
           let small : sorted.1 < 2 ^ 64 = subst (λ n. n < 2 ^ 64) g.1 (objects o 0 g.0) in
           let e = ends (holds (terms.value mid inside v)) (terms.value mid offset v) (bytes_added c env steps) (slice_index_or env.memory o []) begin bytes sorted.1
-            (ap (option_map (λ n. n % 2 ^ 64)) (sym (leads v (limited_of base c old s t ls (step_trees steps) limits v env suits))) ∙ led_is base c old s t ls steps limits v env suits true begin)
-            (low v) (λ n added. sorted.3.inside n (adds c env steps n added)) small whole in
+          (ap (option_map (λ n. n % 2 ^ 64)) (sym (leads v (limited_of base c old s t ls (step_trees steps) limits v env suits))) ∙ led_is base c old s t ls steps limits v env suits true begin)
+          (low v) (λ n added. sorted.3.inside n (adds c env steps n added)) small whole in
           is v (subst (IsMemory named.objects) (sym memory) there) (λ q. subst (λ m. terms.value mid offset v + bytes ≤ length (slice_index_or m o [])) (sym memory) (e.lies q))
           ∙ ap (λ m. if holds (terms.value mid inside v) then load (slice_index_or m o []) (terms.value mid offset v) bytes else 0) memory
           ∙ e.is;

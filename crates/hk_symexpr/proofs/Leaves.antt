@@ -2,6 +2,7 @@
 use Rattle.std.proofs.Common.{◌≡◌, ◌<◌, ◌≤◌, ◌+◌, ◌-◌, ◌%◌, ◌^◌, ℕ, zero, suc, List, [], ◌∷◌, Some, length, map, refl, sym, ap, subst, ◌∙◌, arith, All, get_or, mod-eq_of_lt}
 use Rattle.std.specs.Prelude.{slice_get, slice_index}
 use Rattle.std.proofs.lemmas.List.{get_or-map, get_or_past}
+use Rattle.std.proofs.Math.Nat.{pow-le-pow_right}
 use Rattle.hk_term.specs.Shape.{width}
 use Rattle.hk_term.specs.Meaning as term
 use Rattle.hk_term.specs.Meaning.{Reading}
@@ -98,7 +99,7 @@ key_is source c nodes new s k w size r few there fits low within wide is =
     }
 
 pub variable_is : (source : Reading → Source) (c : Context) (nodes new : List Node) (s : Scope) (k w size r id : ℕ) → slice_get s.sizes k ≡ Some size → size ≤ 2 ^ w → length s.keys ≤ k → id ≡ s.base + k
-    → r < length new → width new r ≡ w → ((v : Reading) → term.value new r v ≡ v.var id % 2 ^ w) → IsTermOf source (context_of c s) nodes s new r (bound k w)
+    → r < length new → width new r ≡ w → ((v : Reading) → v.var id < 2 ^ w → term.value new r v ≡ v.var id) → IsTermOf source (context_of c s) nodes s new r (bound k w)
 variable_is source c nodes new s k w size r id there fits high same within wide is =
     record {
       within = within;
@@ -107,7 +108,7 @@ variable_is source c nodes new s k w size r id there fits high same within wide 
           let h = read_here source (context_of c s) nodes s v env suits in
           let e : slice_index env.bounds k ≡ v.var id = ap (λ l. slice_index l k) h.bounds ∙ variable_at nodes s.keys s.base s.sizes v k high (size_there s.sizes k size there) ∙ ap v.var (sym same) in
           let b : slice_index env.bounds k < size = below_at s.sizes env.bounds k size h.below there in
-          is v ∙ mod-eq_of_lt (omega (arith, sym e, b, fits)) ∙ sym e;
+          is v (omega (arith, sym e, b, fits)) ∙ sym e;
     }
 
 -- ---- how great a number may be
@@ -124,3 +125,11 @@ known_most_kept source c old new s keeps names v env suits = limits_kept old new
 
 pub at_key : (old new : List Node) (a b w r : ℕ) → a ≡ b → ((v : Reading) → term.value old a v < 2 ^ w → term.value new r v ≡ term.value old a v) → (v : Reading) → term.value old b v < 2 ^ w → term.value new r v ≡ term.value old b v
 at_key old new a b w r e h = let P : ℕ → Type 0 = λ q. (v : Reading) → term.value old q v < 2 ^ w → term.value new r v ≡ term.value old q v in subst P e h
+
+-- a variable of 64 bits, cut to a width that has its number
+pub cut_is : (mid new : List Node) (wide r w id : ℕ) → w ≤ 64 → ((v : Reading) → term.value mid wide v ≡ v.var id % 2 ^ 64) → ((v : Reading) → term.value mid wide v < 2 ^ w → term.value new r v ≡ term.value mid wide v)
+    → (v : Reading) → v.var id < 2 ^ w → term.value new r v ≡ v.var id
+cut_is mid new wide r w id few is cut v low =
+    let room : 2 ^ w ≤ 2 ^ 64 = pow-le-pow_right {n = 2} (omega arith) {i = w} {j = 64} few in
+    let same : term.value mid wide v ≡ v.var id = is v ∙ mod-eq_of_lt (omega (arith, low, room)) in
+    cut v (omega (arith, same, low)) ∙ same

@@ -67,15 +67,15 @@ ready_kept c limit old new s k h = record { names = are_names_kept old new s k h
 pub suits_kept : (old_source : Reading → Source) (old : List Node) (source : Reading → Source) (new : List Node) (s : Scope) (c : Context) → Lasts old_source old source new s → (v : Reading) (env : Env) → Suits old_source c old s v env → Suits source c new s v env
 suits_kept old_source old source new s c l v env h =
     λ u a. let r = h u a in
-      record {
-        read = l.same u ∙ r.read;
-        memory = r.memory;
-        args = r.args ∙ sym (names_kept old new l.keeps s.args l.names.args u);
-        locals = r.locals ∙ sym (names_kept old new l.keeps s.locals l.names.locals u);
-        bounds = r.bounds ∙ sym (bounds_kept old new l.keeps s.keys l.names.keys s.base s.sizes u);
-        below = r.below;
-        known = limits_kept old new l.keeps s.known l.names.known u r.known;
-      }
+    record {
+      read = l.same u ∙ r.read;
+      memory = r.memory;
+      args = r.args ∙ sym (names_kept old new l.keeps s.args l.names.args u);
+      locals = r.locals ∙ sym (names_kept old new l.keeps s.locals l.names.locals u);
+      bounds = r.bounds ∙ sym (bounds_kept old new l.keeps s.keys l.names.keys s.base s.sizes u);
+      below = r.below;
+      known = limits_kept old new l.keeps s.known l.names.known u r.known;
+    }
 
 -- ---- terms
 

@@ -121,24 +121,24 @@ pub suits_entered : (source : Reading → Source) (c : Context) (nodes : List No
 suits_entered source c nodes s v env sizes t keys each h =
     let first : ℕ = s.base + length s.sizes in
     λ u a.
-      let less : s.base + length s.sizes ≤ s.base + length (s.sizes ++ sizes) = omega (arith, length-append s.sizes sizes) in
-      let more : first + length sizes ≤ s.base + length (s.sizes ++ sizes) = omega (arith, length-append s.sizes sizes) in
-      let w = with_vars v first t in
-      let b = with_vars_agree v first t in
-      let here : Agrees first v u = record { entry = a.entry ∙ b.entry; var = λ id low. a.var id (omega (arith, low, less)) ∙ b.var id low } in
-      let r = h u here in
-      record {
-        read = r.read;
-        memory = r.memory;
-        args = r.args;
-        locals = r.locals;
-        bounds =
-            ap (λ l. l ++ t) r.bounds
-            ∙ ap (λ l. bounds_at nodes s.keys s.base s.sizes u ++ l) (sym (variables_agree sizes first (s.base + length (s.sizes ++ sizes)) w u more a ∙ variables_are sizes t each first v))
-            ∙ sym (bounds_more nodes s.keys s.base s.sizes sizes u keys);
-        below = below_more s.sizes env.bounds sizes t r.below each;
-        known = r.known;
-      }
+    let less : s.base + length s.sizes ≤ s.base + length (s.sizes ++ sizes) = omega (arith, length-append s.sizes sizes) in
+    let more : first + length sizes ≤ s.base + length (s.sizes ++ sizes) = omega (arith, length-append s.sizes sizes) in
+    let w = with_vars v first t in
+    let b = with_vars_agree v first t in
+    let here : Agrees first v u = record { entry = a.entry ∙ b.entry; var = λ id low. a.var id (omega (arith, low, less)) ∙ b.var id low } in
+    let r = h u here in
+    record {
+      read = r.read;
+      memory = r.memory;
+      args = r.args;
+      locals = r.locals;
+      bounds =
+          ap (λ l. l ++ t) r.bounds
+          ∙ ap (λ l. bounds_at nodes s.keys s.base s.sizes u ++ l) (sym (variables_agree sizes first (s.base + length (s.sizes ++ sizes)) w u more a ∙ variables_are sizes t each first v))
+          ∙ sym (bounds_more nodes s.keys s.base s.sizes sizes u keys);
+      below = below_more s.sizes env.bounds sizes t r.below each;
+      known = r.known;
+    }
 
 truth_is : (n : ℕ) → n < 2 → nat_eq n 1 ≡ holds n
 truth_is zero h = refl

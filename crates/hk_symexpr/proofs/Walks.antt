@@ -111,7 +111,7 @@ suits_knowing : (base src : Reading → Source) (c : Context) (old t : List Node
     → ((u : Reading) → Agrees (s.base + length s.sizes) v u → AreLimited t s.known u → AreLimited t known u) → Suits src c t (knowing s known) v env
 suits_knowing base src c old t s known v env lasts suits more =
     λ u a. let r = suits_kept base old src t s c lasts v env suits u a in
-      record { read = r.read; memory = r.memory; args = r.args; locals = r.locals; bounds = r.bounds; below = r.below; known = more u a r.known }
+    record { read = r.read; memory = r.memory; args = r.args; locals = r.locals; bounds = r.bounds; below = r.below; known = more u a r.known }
 
 pub where_is : (base src : Reading → Source) (c : Context) (old t new : List Node) (s : Scope) (known : List Limit) (condition r : ℕ) (e : Tree) → Lasts base old src t s
     → ((v : Reading) → terms.value t condition v ≡ 1 → AreLimited t s.known v → AreLimited t known v) → IsTermOf src c t (knowing s known) new r e → IsTermWhere base c old s t condition new r e

@@ -112,12 +112,7 @@ fn note(t: &Terms, term: TermId, most: u64, known: &mut Vec<Limit>) -> Result<()
 }
 
 // The first of two terms is less.
-fn note_less(
-    t: &Terms,
-    a: TermId,
-    b: TermId,
-    known: &mut Vec<Limit>,
-) -> Result<(), AllocError>
+fn note_less(t: &Terms, a: TermId, b: TermId, known: &mut Vec<Limit>) -> Result<(), AllocError>
     requires first { a < length t.now }
     requires second { b < length t.now }
     requires known { All (λ l. l.term < length t.now) known.old.items }
@@ -131,12 +126,7 @@ fn note_less(
 }
 
 // The first of two terms is not less.
-fn note_not_less(
-    t: &Terms,
-    a: TermId,
-    b: TermId,
-    known: &mut Vec<Limit>,
-) -> Result<(), AllocError>
+fn note_not_less(t: &Terms, a: TermId, b: TermId, known: &mut Vec<Limit>) -> Result<(), AllocError>
     requires first { a < length t.now }
     requires second { b < length t.now }
     requires known { All (λ l. l.term < length t.now) known.old.items }
@@ -150,12 +140,7 @@ fn note_not_less(
 }
 
 // Two terms are equal.
-fn note_same(
-    t: &Terms,
-    a: TermId,
-    b: TermId,
-    known: &mut Vec<Limit>,
-) -> Result<(), AllocError>
+fn note_same(t: &Terms, a: TermId, b: TermId, known: &mut Vec<Limit>) -> Result<(), AllocError>
     requires first { a < length t.now }
     requires second { b < length t.now }
     requires known { All (λ l. l.term < length t.now) known.old.items }

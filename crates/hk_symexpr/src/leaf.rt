@@ -73,7 +73,8 @@ fn key_at(keys: &[TermId], k: u32) -> TermId
     keys[k as usize]
 }
 
-/// The term of a variable of a quantifier, or of a field's key.
+/// The term of a variable of a quantifier, or of a field's key. A quantifier's variable has the width 64 wherever it stands, so
+/// that each id has one width in the whole list, and is cut to the width of its sort.
 pub(crate) fn variable(
     t: &mut Terms,
     names: &Names,
@@ -91,7 +92,8 @@ pub(crate) fn variable(
         let made = at_width(t, width, key_at(names.keys, k))?;
         Ok(made)
     } else {
-        let made = ops::variable(t, width, names.base + k)?;
+        let wide = ops::variable(t, 64, names.base + k)?;
+        let made = at_width(t, width, wide)?;
         Ok(made)
     }
 }

@@ -137,7 +137,12 @@ fn not_below(t: &mut Terms, a: TermId, b: TermId) -> Result<TermId, AllocError>
 }
 
 /// An operator with two operands of one width.
-pub(crate) fn binary(t: &mut Terms, kind: BinKind, a: TermId, b: TermId) -> Result<TermId, AllocError>
+pub(crate) fn binary(
+    t: &mut Terms,
+    kind: BinKind,
+    a: TermId,
+    b: TermId,
+) -> Result<TermId, AllocError>
     requires first { a < length t.old }
     requires second { b < length t.old }
     requires widths { width t.old a ≡ width t.old b }

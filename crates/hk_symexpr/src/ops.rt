@@ -285,7 +285,12 @@ pub(crate) fn neg(t: &mut Terms, a: TermId) -> Result<TermId, AllocError>
 }
 
 /// The first of two terms where the condition is true, and else the second.
-pub(crate) fn choose(t: &mut Terms, condition: TermId, a: TermId, b: TermId) -> Result<TermId, AllocError>
+pub(crate) fn choose(
+    t: &mut Terms,
+    condition: TermId,
+    a: TermId,
+    b: TermId,
+) -> Result<TermId, AllocError>
     requires condition { condition < length t.old }
     requires first { a < length t.old }
     requires second { b < length t.old }

@@ -60,7 +60,13 @@ fn moved(t: &mut Terms, offset: TermId, wide: TermId, stride: u64) -> Result<Ter
 }
 
 // One step further.
-fn further(t: &mut Terms, lead: Lead, index: Limit, count: u64, stride: u64) -> Result<Lead, AllocError>
+fn further(
+    t: &mut Terms,
+    lead: Lead,
+    index: Limit,
+    count: u64,
+    stride: u64,
+) -> Result<Lead, AllocError>
     requires inside { lead.inside < length t.old }
     requires truth { width t.old lead.inside ≡ 1 }
     requires offset { lead.offset < length t.old }

@@ -79,7 +79,7 @@ pub trait SymReads {
         ensures width { IfOk result (λ r. width t.new r ≡ (slice_index_or (named self.now).fields field no_field).width) }
         ensures value { IfOk result (λ r. (v : Reading) → AreLimited t.old index.now v → AreSteady (limit self.now) t.old index.now v →
             value t.new r v ≡ entry_at (slice_index_or (state_in (source self.now t.old v) name) field [])
-                (place_behind 0 (slice_index_or (named self.now).fields field no_field).keys (index_values t.old index.now v))) }
+            (place_behind 0 (slice_index_or (named self.now).fields field no_field).keys (index_values t.old index.now v))) }
         ensures keeps_widths { (k : ℕ) → k < length t.old → width t.new k ≡ width t.old k }
         ensures keeps_values { (k : ℕ) → k < length t.old → (v : Reading) → value t.new k v ≡ value t.old k v }
         ensures longer { length t.old ≤ length t.new }
