@@ -10,7 +10,7 @@ use Rattle.spec_tree.specs.Value.{Env}
 use Rattle.hk_symexpr.specs.Sources.{Source, Agrees, Keeps}
 use Rattle.hk_symexpr.specs.Scope.{Scope}
 use Rattle.hk_symexpr.specs.Naming.{IsNamed, AreNames, IsRead, Suits, name_values, bounds_at, variables_from, AreLimited}
-use Rattle.hk_symexpr.specs.Made.{Ready, Lasts, IsTermOf, IsLimitOf, AreLimitsOf}
+use Rattle.hk_symexpr.specs.Made.{Ready, Lasts, IsTermOf, IsTermWhere, IsLimitOf, AreLimitsOf}
 use Rattle.hk_symexpr.specs.declared.names.NamedTerm.{NamedTerm}
 use Rattle.hk_symexpr.specs.declared.names.Limit.{Limit}
 use Rattle.hk_symexpr.proofs.Frames.{followed, unchanged}
@@ -110,3 +110,12 @@ lasts_then old_source old source mid s new_source new k same l = record { names 
 
 pub lasts_here : (source : Reading → Source) (old : List Node) (s : Scope) → AreNames old s → Lasts source old source old s
 lasts_here source old s h = record { names = h; keeps = unchanged old; same = λ v. refl }
+
+-- where a condition is true, what was made of a shorter list
+pub where_kept : (source : Reading → Source) (c : Context) (old : List Node) (s : Scope) (mid later new newer : List Node) (condition r : ℕ) (e : Tree) → Keeps mid later → condition < length mid → Keeps new newer → IsTermWhere source c old s mid condition new r e → IsTermWhere source c old s later condition newer r e
+where_kept source c old s mid later new newer condition r e m low k h =
+    record {
+      within = omega (arith, h.within, k.longer);
+      width_is = k.widths r h.within ∙ h.width_is;
+      value_is = λ v env suits holding. k.values r h.within v ∙ h.value_is v env suits (λ u a. sym (m.values condition low u) ∙ holding u a);
+    }

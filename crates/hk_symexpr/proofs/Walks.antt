@@ -1,20 +1,22 @@
 -- One element more of a list of expressions, and what counts where more is known.
 use Rattle.std.proofs.Common.{rules, ◌≡◌, ◌<◌, ◌≤◌, ◌+◌, ◌++◌, ◌&&◌, ◌^◌, ℕ, zero, suc, Bool, true, false, List, [], ◌∷◌, length, take, drop, drop-cons, add-one, refl, sym, ap, subst, ◌∙◌, arith, All, get_or}
-use Rattle.std.specs.Prelude.{◌||◌, if◌then◌else◌}
+use Rattle.std.specs.Prelude.{◌||◌, if◌then◌else◌, Some, slice_get, slice_index_or}
 use Rattle.std.specs.List.{list_all, list_any}
 use Rattle.std.proofs.lemmas.List.{take_more, take_all}
 use Rattle.hk_term.specs.Shape.{width}
 use Rattle.hk_term.specs.Meaning as terms
 use Rattle.hk_term.specs.Meaning.{Reading}
 use Rattle.hk_term.specs.declared.node.Node.{Node}
-use Rattle.spec_tree.specs.Plain.{Tree, path, all_of, any_of, Trees}
+use Rattle.spec_tree.specs.Plain.{Tree, path, all_of, any_of, entry, Trees}
+use Rattle.spec_tree.specs.declared.expr.StateName.{StateName}
+use Rattle.hk_symexpr.proofs.Joins.{indices_sorted}
 use Rattle.spec_tree.specs.View.{view_expr, view_exprs, view_expr_list, view_path, view_step, view_steps, view_step_list}
 use Rattle.spec_tree.specs.declared.expr.Expr.{Expr}
 use Rattle.spec_tree.specs.declared.expr.ExprList.{ExprList, out-ExprList}
 use Rattle.spec_tree.specs.declared.expr.StepList.{StepList, out-StepList}
 use Rattle.spec_tree.specs.declared.expr.Path.{Path, out-Path}
 use Rattle.spec_tree.specs.declared.expr.PathStep.{PathStep}
-use Rattle.spec_tree.specs.declared.expr.Expr.TheFolds.{fold_out-ExprList, fold_out-StepList, fold_out-Path}
+use Rattle.spec_tree.specs.declared.expr.Expr.TheFolds.{fold_out-ExprList, fold_out-StepList, fold_out-Path, fold-roll-PathStep, fold_out-PathStep}
 use Rattle.spec_tree.specs.Sorted.{Context, IsSorted, AreTruths, AreSteps, with_bounds, width_of}
 use Rattle.spec_tree.specs.Value.{Env, value, values, holds, bit}
 use Rattle.hk_symexpr.specs.Sources.{Source, Agrees, Keeps}
@@ -67,6 +69,18 @@ truths_at c items k e is low h = subst (λ l. AreTruths c (view_exprs l)) (part_
 
 pub steps_at : (c : Context) (items : List PathStep) (k : ℕ) (x : PathStep) → x ≡ get_or items k x → k < length items → AreSteps c (view_steps (drop k items)) → IsSorted c (view_step x).index × AreSteps c (view_steps (drop (k + 1) items))
 steps_at c items k x is low h = subst (λ l. AreSteps c (view_steps l)) (part_at items k x is low) h
+
+pub step_index : (x : PathStep) → (view_step x).index ≡ view_expr x.index
+step_index x = search (rules, fold-roll-PathStep, fold_out-PathStep)
+
+pub sorted_here : (c : Context) (items : List Expr) (k : ℕ) (e : Expr) → e ≡ get_or items k e → k < length items → AreSorted c (view_exprs (drop k items)) → IsSorted c (view_expr e)
+sorted_here c items k e is low h = (sorted_at c items k e is low h).0
+
+pub truth_here : (c : Context) (items : List Expr) (k : ℕ) (e : Expr) → e ≡ get_or items k e → k < length items → AreTruths c (view_exprs (drop k items)) → IsSorted c (view_expr e)
+truth_here c items k e is low h = (truths_at c items k e is low h).0
+
+pub step_here : (c : Context) (items : List PathStep) (k : ℕ) (x : PathStep) → x ≡ get_or items k x → k < length items → AreSteps c (view_steps (drop k items)) → IsSorted c (view_step x).index
+step_here c items k x is low h = (steps_at c items k x is low h).0
 
 -- ---- limits
 
@@ -233,3 +247,54 @@ names_entered t s sizes h = record { args = h.args; locals = h.locals; keys = h.
 
 pub lasts_entered : (base : Reading → Source) (old : List Node) (src : Reading → Source) (t : List Node) (s : Scope) (sizes : List ℕ) → Lasts base old src t s → Lasts base old src t (entered s sizes)
 lasts_entered base old src t s sizes h = record { names = names_entered old s sizes h.names; keeps = h.keeps; same = h.same }
+
+behind_length : (a b : List ℕ) → length (a ++ b) ≡ length a + length b
+behind_length [] b = omega arith
+behind_length (x ∷ xs) b = omega (arith, behind_length xs b)
+
+pub ready_entered : (c : Context) (limit : ℕ) (t : List Node) (s : Scope) (all sizes : List ℕ) → Ready c limit t s → all ≡ s.sizes ++ sizes → s.base + length all ≤ limit → Ready c limit t (record s { sizes = all })
+ready_entered c limit t s all sizes h is room =
+    let longer : length all ≡ length s.sizes + length sizes = ap length is ∙ behind_length s.sizes sizes in
+    record {
+      names = record { args = h.names.args; locals = h.names.locals; keys = h.names.keys; known = h.names.known };
+      keys = omega (arith, longer, h.keys);
+      ids = room;
+      low = h.low;
+      fields = h.fields;
+      objects = h.objects;
+    }
+
+pub ids_entered : (c : Context) (limit : ℕ) (t : List Node) (s : Scope) (all sizes : List ℕ) → Ready c limit t s → all ≡ s.sizes ++ sizes → s.base + length all ≤ limit → s.base + length s.sizes + length sizes < 2 ^ 32
+ids_entered c limit t s all sizes h is room =
+    let longer : length all ≡ length s.sizes + length sizes = ap length is ∙ behind_length s.sizes sizes in omega (arith, longer, room, h.low)
+
+pub sorted_entered : (c : Context) (s : Scope) (all sizes : List ℕ) (e : Tree) → all ≡ s.sizes ++ sizes → IsSorted (with_bounds (context_of c s) sizes) e → IsSorted (context_of c (record s { sizes = all })) e
+sorted_entered c s all sizes e is h = let P : List ℕ → Type 0 = λ l. IsSorted (context_of c (record s { sizes = l })) e in subst P (sym is) h
+
+pub term_entered : (base src : Reading → Source) (c : Context) (old t new : List Node) (s : Scope) (all sizes : List ℕ) (r : ℕ) (e : Tree) → all ≡ s.sizes ++ sizes
+    → ((first : Reading → Source) (from : List Node) → Lasts first from src t (record s { sizes = all }) → IsTermOf first (context_of c (record s { sizes = all })) from (record s { sizes = all }) new r e)
+    → Lasts base old src t s → IsTermOf base (with_bounds (context_of c s) sizes) old (entered s sizes) new r e
+term_entered base src c old t new s all sizes r e is h lasts =
+    let P : List ℕ → Type 0 = λ l. (first : Reading → Source) (from : List Node) → Lasts first from src t (record s { sizes = l }) → IsTermOf first (context_of c (record s { sizes = l })) from (record s { sizes = l }) new r e in
+    subst P is h base old (lasts_entered base old src t s sizes lasts)
+
+pub width_entered : (c : Context) (s : Scope) (all sizes : List ℕ) (e : Tree) (w : ℕ) → all ≡ s.sizes ++ sizes → w ≡ width_of (context_of c (record s { sizes = all })) e → w ≡ width_of (with_bounds (context_of c s) sizes) e
+width_entered c s all sizes e w is h = let P : List ℕ → Type 0 = λ l. w ≡ width_of (context_of c (record s { sizes = l })) e in subst P is h
+
+-- ---- fields
+
+pub got_within : {X : Type 0} (xs : List X) (k : ℕ) (x : X) → slice_get xs k ≡ Some x → k < length xs
+got_within [] k x h = cc
+got_within (y ∷ ys) zero x h = omega arith
+got_within (y ∷ ys) (suc k) x h = omega (arith, got_within ys k x h)
+
+pub got_is : {X : Type 0} (xs : List X) (k : ℕ) (x d : X) → slice_get xs k ≡ Some x → slice_index_or xs k d ≡ x
+got_is [] k x d h = cc
+got_is (y ∷ ys) zero x d h = cc
+got_is (y ∷ ys) (suc k) x d h = got_is ys k x d h
+
+pub path_steps_sorted : (c : Context) (p : Path) → IsSorted c (path_tree (view_path p)) → AreSteps c (view_step_list (out-Path p).steps)
+path_steps_sorted c p h = subst (AreSteps c) (steps_are p) h.4
+
+pub entry_sorted : (c : Context) (name : StateName) (f : ℕ) (es : Trees) → IsSorted c (entry name f es) → AreSorted c es
+entry_sorted c name f es h = indices_sorted c h.1.keys es h.3

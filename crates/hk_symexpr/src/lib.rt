@@ -5,6 +5,7 @@
 //! expression has over what is read then. Quantifiers become quantifiers over variables whose ids go by their places.
 #![tactic(auto)]
 
+mod build;
 mod conditions;
 mod join;
 mod known;
@@ -16,7 +17,9 @@ mod ops;
 mod path;
 mod quantify;
 mod reads;
+mod term;
 
 pub use conditions::learn;
 pub use names::{Limit, NamedTerm, Names};
 pub use reads::SymReads;
+pub use term::term_of;

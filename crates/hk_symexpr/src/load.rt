@@ -1,20 +1,25 @@
 //! Reads of the kernel's memory, and what is read as the list of terms grows.
 
-ghost use Rattle.std.specs.Prelude.{◌≡◌, ℕ, ◌+◌, ◌*◌, ◌^◌, ◌<◌, ◌≤◌, List, [], true, if◌then◌else◌, length, slice_index_or, IfOk, IsTrue};
+ghost use Rattle.std.specs.Prelude.{◌≡◌, ℕ, ◌+◌, ◌*◌, ◌^◌, ◌<◌, ◌≤◌, ◌++◌, All, List, [], true, if◌then◌else◌, length, slice_index_or, IfOk, IsTrue};
 ghost use Rattle.hk_term.specs.Shape.{width};
 ghost use Rattle.hk_term.specs.Meaning.{Reading, value};
 ghost use Rattle.hk_term.specs.declared.node.Node.{Node};
 ghost use Rattle.spec_tree.specs.Value.{holds, load};
 ghost use Rattle.spec_tree.specs.Shapes.{IsMemory};
 ghost use Rattle.hk_symexpr.specs.Sources.{Source, Keeps};
-ghost use Rattle.hk_symexpr.specs.Scope.{scope_of};
-ghost use Rattle.hk_symexpr.specs.Made.{Ready, Lasts};
+ghost use Rattle.hk_symexpr.specs.Scope.{scope_of, knowing};
+ghost use Rattle.hk_symexpr.specs.Naming.{context_of};
+ghost use Rattle.spec_tree.specs.Sorted.{IsSorted, with_bounds};
+ghost use Rattle.spec_tree.specs.View.{view_expr, view_expr_list};
+ghost use Rattle.spec_tree.specs.Plain as plain;
+ghost use Rattle.hk_symexpr.specs.Made.{Ready, Lasts, AreSorted};
 
-use crate::names::Names;
+use crate::names::{Limit, Names};
 use crate::ops::{choose, number, sized};
 use crate::path::Lead;
 use crate::reads::SymReads;
 use hk_term::{TermId, Terms};
+use spec_tree::{Expr, ExprList, StateName};
 use std::alloc::{AllocError, Global};
 
 /// What is named and read lasts as the list of terms grows. The call does nothing: its contract is the law.
@@ -30,6 +35,61 @@ pub(crate) fn lasting<R: SymReads>(t: &Terms, reads: &R, names: &Names)
     let _list = t;
     let _reads = reads;
     let _names = names;
+}
+
+/// What is named is ready where more is known. The call does nothing.
+pub(crate) fn ready_where<R: SymReads>(t: &Terms, reads: &R, names: &Names, known: &[Limit])
+    requires ready { Ready (R.named reads.now) (R.limit reads.now) t.now (scope_of names.now) }
+    requires known { All (λ l. l.term < length t.now) known.now }
+    ensures { Ready (R.named reads.now) (R.limit reads.now) t.now (knowing (scope_of names.now) known.now) }
+{
+    let _list = t;
+    let _reads = reads;
+    let _names = names;
+    let _known = known;
+}
+
+/// What is named is ready behind variables more, and an expression is sorted there. The call does nothing.
+pub(crate) fn ready_behind<R: SymReads>(
+    t: &Terms,
+    reads: &R,
+    names: &Names,
+    all: &[u32],
+    sizes: &[u32],
+    e: &Expr,
+)
+    requires ready { Ready (R.named reads.now) (R.limit reads.now) t.now (scope_of names.now) }
+    requires all { all.now ≡ names.now.sizes.now ++ sizes.now }
+    requires room { names.now.base + length all.now ≤ R.limit reads.now }
+    requires sorted { IsSorted (with_bounds (context_of (R.named reads.now) (scope_of names.now)) sizes.now) (view_expr e.now) }
+    ensures ready { Ready (R.named reads.now) (R.limit reads.now) t.now (record (scope_of names.now) { sizes = all.now }) }
+    ensures sorted { IsSorted (context_of (R.named reads.now) (record (scope_of names.now) { sizes = all.now })) (view_expr e.now) }
+    ensures ids { names.now.base + length names.now.sizes.now + length sizes.now < 2 ^ 32 }
+{
+    let _list = t;
+    let _reads = reads;
+    let _names = names;
+    let _all = all;
+    let _sizes = sizes;
+    let _e = e;
+}
+
+/// The indices of an entry are sorted. The call does nothing.
+pub(crate) fn sorted_indices<R: SymReads>(
+    reads: &R,
+    names: &Names,
+    name: StateName,
+    field: u32,
+    at: &ExprList,
+)
+    requires { IsSorted (context_of (R.named reads.now) (scope_of names.now)) (plain.entry name field (view_expr_list at.now)) }
+    ensures { AreSorted (context_of (R.named reads.now) (scope_of names.now)) (view_expr_list at.now) }
+{
+    let _reads = reads;
+    let _names = names;
+    let _name = name;
+    let _field = field;
+    let _at = at;
 }
 
 // The number in so many bytes of an object, with what it leaves as one clause.
