@@ -17,7 +17,7 @@ use Rattle.spec_tree.specs.Sorted.{Context, FieldSort, IsSorted, AreIndices, Are
 use Rattle.spec_tree.specs.Value.{Env, value, values, holds, bit, tuples, binding, bytes_added, stepped, loaded, load, entry_at, place_behind, state_of}
 use Rattle.spec_tree.specs.Shapes.{AreBelow, IsMemory}
 use Rattle.spec_tree.proofs.Entries.{all_below}
-use Rattle.hk_symexpr.specs.Sources.{Source, Agrees, state_in}
+use Rattle.hk_symexpr.specs.Sources.{Source, Agrees, Rests, state_in}
 use Rattle.hk_symexpr.specs.Scope.{Scope, entered}
 use Rattle.hk_symexpr.specs.Naming.{Suits, AreLimited, AreSteady, AreIndexTerms, index_values, bounds_from, context_of}
 use Rattle.hk_symexpr.specs.Made.{Lasts, IsTermOf, IsTermWhere, IsLimitOf, AreLimitsOf, AreSorted, step_trees}
@@ -144,7 +144,7 @@ state_is source env New h = ap (λ q. q.new) h
 
 pub entry_is : (base src : Reading → Source) (named : Context) (limit : ℕ) (s : Scope) (old t new : List Node) (name : StateName) (f r : ℕ) (ls : List Limit) (es : Trees) → s.base + length s.sizes ≤ limit → Lasts base old src t s
     → AreLimitsOf base (context_of named s) old s t ls es → r < length new → width new r ≡ (slice_index_or named.fields f no_field).width
-    → ((v : Reading) → AreLimited t ls v → AreSteady limit t ls v → terms.value new r v ≡ entry_at (slice_index_or (state_in (src v) name) f []) (place_behind 0 (slice_index_or named.fields f no_field).keys (index_values t ls v)))
+    → ((v : Reading) → AreLimited t ls v → AreSteady limit t ls v → Rests limit src v → terms.value new r v ≡ entry_at (slice_index_or (state_in (src v) name) f []) (place_behind 0 (slice_index_or named.fields f no_field).keys (index_values t ls v)))
     → IsTermOf base (context_of named s) old s new r (entry name f es)
 entry_is base src named limit s old t new name f r ls es ids lasts limits within wide is =
     let c : Context = context_of named s in
@@ -156,6 +156,7 @@ entry_is base src named limit s old t new name f r ls es ids lasts limits within
           let here : index_values t ls v ≡ values c env es = values_of base c old s t ls es limits v env suits in
           is v (limited_of base c old s t ls es limits v env suits)
           (λ u a. values_of base c old s t ls es limits u env (suits_beside base c old s v u env (agrees_less (s.base + length s.sizes) limit v u ids a) suits) ∙ sym here)
+          (λ u a. lasts.same u ∙ (suits u (agrees_less (s.base + length s.sizes) limit v u ids a)).read ∙ sym (lasts.same v ∙ (read_here base c old s v env suits).read))
           ∙ ap (λ st. entry_at (slice_index_or st f []) (place_behind 0 keys (index_values t ls v))) (state_is (src v) env name (lasts.same v ∙ (read_here base c old s v env suits).read))
           ∙ ap (λ is'. entry_at (slice_index_or (state_of env name) f []) (place_behind 0 keys is')) here;
     }

@@ -27,3 +27,7 @@ pub record Keeps (old new : List Node) : Type 0 where
   pub widths : (k : ℕ) → k < length old → width new k ≡ width old k
   pub values : (k : ℕ) → k < length old → (v : Reading) → value new k v ≡ value old k v
   pub grows : (first : List Node) → Grows first old → Grows first new
+
+-- under all readings that differ in variables from an id on alone, the same is read
+abbrev pub Rests : ℕ → (Reading → Source) → Reading → Type 0
+Rests limit source v = (u : Reading) → Agrees limit v u → source u ≡ source v

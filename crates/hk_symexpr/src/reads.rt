@@ -7,7 +7,7 @@ ghost use Rattle.hk_term.specs.declared.node.Node.{Node};
 ghost use Rattle.spec_tree.specs.Sorted.{Context, IsFieldSort, no_field, reads};
 ghost use Rattle.spec_tree.specs.Value.{entry_at, load, place_behind};
 ghost use Rattle.spec_tree.specs.Shapes.{IsMemory};
-ghost use Rattle.hk_symexpr.specs.Sources.{Source, Keeps, state_in};
+ghost use Rattle.hk_symexpr.specs.Sources.{Source, Keeps, Rests, state_in};
 ghost use Rattle.hk_symexpr.specs.Naming.{AreIndexTerms, AreLimited, AreSteady, index_values};
 
 use crate::names::Limit;
@@ -78,6 +78,7 @@ pub trait SymReads {
         ensures within { IfOk result (λ r. r < length t.new) }
         ensures width { IfOk result (λ r. width t.new r ≡ (slice_index_or (named self.now).fields field no_field).width) }
         ensures value { IfOk result (λ r. (v : Reading) → AreLimited t.old index.now v → AreSteady (limit self.now) t.old index.now v →
+            Rests (limit self.now) (source self.now t.old) v →
             value t.new r v ≡ entry_at (slice_index_or (state_in (source self.now t.old v) name) field [])
             (place_behind 0 (slice_index_or (named self.now).fields field no_field).keys (index_values t.old index.now v))) }
         ensures keeps_widths { (k : ℕ) → k < length t.old → width t.new k ≡ width t.old k }
