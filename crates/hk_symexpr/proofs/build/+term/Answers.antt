@@ -407,41 +407,17 @@ build-choice-requires-clause-widths g t c =
     let sorted = subst (IsSorted C) tree c.requires.sorted in
     c.term-in-Choose-2.ensures.keeps.widths c.in_ok-a-in-Choose.a c.in_ok-a-in-Choose.ensures.within ∙ c.in_ok-a-in-Choose.ensures.width_is ∙ sorted.4 ∙ sym c.in_ok-b-in-Choose.ensures.width_is
 
-pub all_hold-lasting-requires-clause-over : goal.all_hold-lasting-requires-clause-over
-all_hold-lasting-requires-clause-over g t c = c.requires.over
-
-pub all_hold-lasting-requires-clause-ready : goal.all_hold-lasting-requires-clause-ready
-all_hold-lasting-requires-clause-ready g t c = c.requires.ready
-
-pub all_hold-returns-clause-keeps : goal.all_hold-returns-clause-keeps
-all_hold-returns-clause-keeps g t c = c.each.invariant.keeps
-
-pub all_hold-returns-in_err-known-clause-keeps : goal.all_hold-returns-in_err-known-clause-keeps
-all_hold-returns-in_err-known-clause-keeps g t c = c.number.ensures.keeps
-
 pub all_hold-returns-in_err-learn-clause-keeps : goal.all_hold-returns-in_err-learn-clause-keeps
 all_hold-returns-in_err-learn-clause-keeps g t c = followed c.args.t.now c.term_knowing.new.t c.both.new.t (followed c.args.t.now c.each.t c.term_knowing.new.t c.each.invariant.keeps c.term_knowing.ensures.keeps) c.both.ensures.keeps
 
 pub all_hold-returns-in_err-made-2-clause-keeps : goal.all_hold-returns-in_err-made-2-clause-keeps
 all_hold-returns-in_err-made-2-clause-keeps g t c = followed c.args.t.now c.term_knowing.new.t c.both.new.t (followed c.args.t.now c.each.t c.term_knowing.new.t c.each.invariant.keeps c.term_knowing.ensures.keeps) c.both.ensures.keeps
 
-pub all_hold-returns-in_err-made-clause-keeps : goal.all_hold-returns-in_err-made-clause-keeps
-all_hold-returns-in_err-made-clause-keeps g t c = c.number.ensures.keeps
-
 pub all_hold-returns-in_err-next-clause-keeps : goal.all_hold-returns-in_err-next-clause-keeps
 all_hold-returns-in_err-next-clause-keeps g t c = followed c.args.t.now c.each.t c.term_knowing.new.t c.each.invariant.keeps c.term_knowing.ensures.keeps
 
-pub body-ready_behind-requires-clause-ready : goal.body-ready_behind-requires-clause-ready
-body-ready_behind-requires-clause-ready g t c = c.requires.ready
-
-pub body-returns-clause-keeps : goal.body-returns-clause-keeps
-body-returns-clause-keeps g t c = c.term.ensures.keeps
-
 pub body-returns-in_err-all-clause-keeps : goal.body-returns-in_err-all-clause-keeps
 body-returns-in_err-all-clause-keeps g t c = unchanged c.args.t.now
-
-pub body-returns-in_err-made-clause-keeps : goal.body-returns-in_err-made-clause-keeps
-body-returns-in_err-made-clause-keeps g t c = c.term.ensures.keeps
 
 pub body-returns-then-not-is_room-clause-keeps : goal.body-returns-then-not-is_room-clause-keeps
 body-returns-then-not-is_room-clause-keeps g t c = unchanged c.args.t.now
@@ -452,17 +428,8 @@ build-returns-in-Arg-clause-keeps g t c = unchanged c.args.t.now
 pub build-returns-in-Local-clause-keeps : goal.build-returns-in-Local-clause-keeps
 build-returns-in-Local-clause-keeps g t c = unchanged c.args.t.now
 
-pub build-returns-in_err-a-in-Bin-clause-keeps : goal.build-returns-in_err-a-in-Bin-clause-keeps
-build-returns-in_err-a-in-Bin-clause-keeps g t c = c.term-in-Bin.ensures.keeps
-
 pub build-returns-in_err-a-in-Choose-clause-keeps : goal.build-returns-in_err-a-in-Choose-clause-keeps
 build-returns-in_err-a-in-Choose-clause-keeps g t c = followed c.args.t.now c.term-in-Choose.new.t c.term_where.new.t c.term-in-Choose.ensures.keeps c.term_where.ensures.keeps
-
-pub build-returns-in_err-a-in-Resize-clause-keeps : goal.build-returns-in_err-a-in-Resize-clause-keeps
-build-returns-in_err-a-in-Resize-clause-keeps g t c = c.term-in-Resize.ensures.keeps
-
-pub build-returns-in_err-a-in-Un-clause-keeps : goal.build-returns-in_err-a-in-Un-clause-keeps
-build-returns-in_err-a-in-Un-clause-keeps g t c = c.term.ensures.keeps
 
 pub build-returns-in_err-b-in-Bin-clause-keeps : goal.build-returns-in_err-b-in-Bin-clause-keeps
 build-returns-in_err-b-in-Bin-clause-keeps g t c = followed c.args.t.now c.term-in-Bin.new.t c.term-in-Bin-2.new.t c.term-in-Bin.ensures.keeps c.term-in-Bin-2.ensures.keeps
@@ -470,32 +437,11 @@ build-returns-in_err-b-in-Bin-clause-keeps g t c = followed c.args.t.now c.term-
 pub build-returns-in_err-b-in-Choose-clause-keeps : goal.build-returns-in_err-b-in-Choose-clause-keeps
 build-returns-in_err-b-in-Choose-clause-keeps g t c = followed c.args.t.now c.term_where.new.t c.term-in-Choose-2.new.t (followed c.args.t.now c.term-in-Choose.new.t c.term_where.new.t c.term-in-Choose.ensures.keeps c.term_where.ensures.keeps) c.term-in-Choose-2.ensures.keeps
 
-pub build-returns-in_err-body-in-Exists-clause-keeps : goal.build-returns-in_err-body-in-Exists-clause-keeps
-build-returns-in_err-body-in-Exists-clause-keeps g t c = c.body-in-Exists.ensures.keeps
-
-pub build-returns-in_err-body-in-ForAll-clause-keeps : goal.build-returns-in_err-body-in-ForAll-clause-keeps
-build-returns-in_err-body-in-ForAll-clause-keeps g t c = c.body.ensures.keeps
-
-pub build-returns-in_err-made-in-All-clause-keeps : goal.build-returns-in_err-made-in-All-clause-keeps
-build-returns-in_err-made-in-All-clause-keeps g t c = c.all_hold.ensures.keeps
-
-pub build-returns-in_err-made-in-Any-clause-keeps : goal.build-returns-in_err-made-in-Any-clause-keeps
-build-returns-in_err-made-in-Any-clause-keeps g t c = c.some_hold.ensures.keeps
-
 pub build-returns-in_err-made-in-Bin-clause-keeps : goal.build-returns-in_err-made-in-Bin-clause-keeps
 build-returns-in_err-made-in-Bin-clause-keeps g t c = followed c.args.t.now c.term-in-Bin-2.new.t c.binary.new.t (followed c.args.t.now c.term-in-Bin.new.t c.term-in-Bin-2.new.t c.term-in-Bin.ensures.keeps c.term-in-Bin-2.ensures.keeps) c.binary.ensures.keeps
 
-pub build-returns-in_err-made-in-Bound-clause-keeps : goal.build-returns-in_err-made-in-Bound-clause-keeps
-build-returns-in_err-made-in-Bound-clause-keeps g t c = c.variable.ensures.keeps
-
 pub build-returns-in_err-made-in-Choose-clause-keeps : goal.build-returns-in_err-made-in-Choose-clause-keeps
 build-returns-in_err-made-in-Choose-clause-keeps g t c = followed c.args.t.now c.term-in-Choose-2.new.t c.choice.new.t (followed c.args.t.now c.term_where.new.t c.term-in-Choose-2.new.t (followed c.args.t.now c.term-in-Choose.new.t c.term_where.new.t c.term-in-Choose.ensures.keeps c.term_where.ensures.keeps) c.term-in-Choose-2.ensures.keeps) c.choice.ensures.keeps
-
-pub build-returns-in_err-made-in-Const-clause-keeps : goal.build-returns-in_err-made-in-Const-clause-keeps
-build-returns-in_err-made-in-Const-clause-keeps g t c = c.constant.ensures.keeps
-
-pub build-returns-in_err-made-in-Entry-clause-keeps : goal.build-returns-in_err-made-in-Entry-clause-keeps
-build-returns-in_err-made-in-Entry-clause-keeps g t c = c.entry.ensures.keeps
 
 pub build-returns-in_err-made-in-Exists-clause-keeps : goal.build-returns-in_err-made-in-Exists-clause-keeps
 build-returns-in_err-made-in-Exists-clause-keeps g t c = followed c.args.t.now c.body-in-Exists.new.t c.exists.new.t c.body-in-Exists.ensures.keeps c.exists.ensures.keeps
@@ -503,38 +449,17 @@ build-returns-in_err-made-in-Exists-clause-keeps g t c = followed c.args.t.now c
 pub build-returns-in_err-made-in-ForAll-clause-keeps : goal.build-returns-in_err-made-in-ForAll-clause-keeps
 build-returns-in_err-made-in-ForAll-clause-keeps g t c = followed c.args.t.now c.body.new.t c.for_all.new.t c.body.ensures.keeps c.for_all.ensures.keeps
 
-pub build-returns-in_err-made-in-Kernel-clause-keeps : goal.build-returns-in_err-made-in-Kernel-clause-keeps
-build-returns-in_err-made-in-Kernel-clause-keeps g t c = c.load.ensures.keeps
-
 pub build-returns-in_err-made-in-Resize-clause-keeps : goal.build-returns-in_err-made-in-Resize-clause-keeps
 build-returns-in_err-made-in-Resize-clause-keeps g t c = followed c.args.t.now c.term-in-Resize.new.t c.resized.new.t c.term-in-Resize.ensures.keeps c.resized.ensures.keeps
 
 pub build-returns-in_err-made-in-Un-clause-keeps : goal.build-returns-in_err-made-in-Un-clause-keeps
 build-returns-in_err-made-in-Un-clause-keeps g t c = followed c.args.t.now c.term.new.t c.unary.new.t c.term.ensures.keeps c.unary.ensures.keeps
 
-pub build-returns-in_err-test-in-Choose-clause-keeps : goal.build-returns-in_err-test-in-Choose-clause-keeps
-build-returns-in_err-test-in-Choose-clause-keeps g t c = c.term-in-Choose.ensures.keeps
-
-pub build-returns-in_ok-made-in-All-clause-keeps : goal.build-returns-in_ok-made-in-All-clause-keeps
-build-returns-in_ok-made-in-All-clause-keeps g t c = c.all_hold.ensures.keeps
-
-pub build-returns-in_ok-made-in-Any-clause-keeps : goal.build-returns-in_ok-made-in-Any-clause-keeps
-build-returns-in_ok-made-in-Any-clause-keeps g t c = c.some_hold.ensures.keeps
-
 pub build-returns-in_ok-made-in-Bin-clause-keeps : goal.build-returns-in_ok-made-in-Bin-clause-keeps
 build-returns-in_ok-made-in-Bin-clause-keeps g t c = followed c.args.t.now c.term-in-Bin-2.new.t c.binary.new.t (followed c.args.t.now c.term-in-Bin.new.t c.term-in-Bin-2.new.t c.term-in-Bin.ensures.keeps c.term-in-Bin-2.ensures.keeps) c.binary.ensures.keeps
 
-pub build-returns-in_ok-made-in-Bound-clause-keeps : goal.build-returns-in_ok-made-in-Bound-clause-keeps
-build-returns-in_ok-made-in-Bound-clause-keeps g t c = c.variable.ensures.keeps
-
 pub build-returns-in_ok-made-in-Choose-clause-keeps : goal.build-returns-in_ok-made-in-Choose-clause-keeps
 build-returns-in_ok-made-in-Choose-clause-keeps g t c = followed c.args.t.now c.term-in-Choose-2.new.t c.choice.new.t (followed c.args.t.now c.term_where.new.t c.term-in-Choose-2.new.t (followed c.args.t.now c.term-in-Choose.new.t c.term_where.new.t c.term-in-Choose.ensures.keeps c.term_where.ensures.keeps) c.term-in-Choose-2.ensures.keeps) c.choice.ensures.keeps
-
-pub build-returns-in_ok-made-in-Const-clause-keeps : goal.build-returns-in_ok-made-in-Const-clause-keeps
-build-returns-in_ok-made-in-Const-clause-keeps g t c = c.constant.ensures.keeps
-
-pub build-returns-in_ok-made-in-Entry-clause-keeps : goal.build-returns-in_ok-made-in-Entry-clause-keeps
-build-returns-in_ok-made-in-Entry-clause-keeps g t c = c.entry.ensures.keeps
 
 pub build-returns-in_ok-made-in-Exists-clause-keeps : goal.build-returns-in_ok-made-in-Exists-clause-keeps
 build-returns-in_ok-made-in-Exists-clause-keeps g t c = followed c.args.t.now c.body-in-Exists.new.t c.exists.new.t c.body-in-Exists.ensures.keeps c.exists.ensures.keeps
@@ -542,38 +467,17 @@ build-returns-in_ok-made-in-Exists-clause-keeps g t c = followed c.args.t.now c.
 pub build-returns-in_ok-made-in-ForAll-clause-keeps : goal.build-returns-in_ok-made-in-ForAll-clause-keeps
 build-returns-in_ok-made-in-ForAll-clause-keeps g t c = followed c.args.t.now c.body.new.t c.for_all.new.t c.body.ensures.keeps c.for_all.ensures.keeps
 
-pub build-returns-in_ok-made-in-Kernel-clause-keeps : goal.build-returns-in_ok-made-in-Kernel-clause-keeps
-build-returns-in_ok-made-in-Kernel-clause-keeps g t c = c.load.ensures.keeps
-
 pub build-returns-in_ok-made-in-Resize-clause-keeps : goal.build-returns-in_ok-made-in-Resize-clause-keeps
 build-returns-in_ok-made-in-Resize-clause-keeps g t c = followed c.args.t.now c.term-in-Resize.new.t c.resized.new.t c.term-in-Resize.ensures.keeps c.resized.ensures.keeps
 
 pub build-returns-in_ok-made-in-Un-clause-keeps : goal.build-returns-in_ok-made-in-Un-clause-keeps
 build-returns-in_ok-made-in-Un-clause-keeps g t c = followed c.args.t.now c.term.new.t c.unary.new.t c.term.ensures.keeps c.unary.ensures.keeps
 
-pub entry-entry-requires-clause-over : goal.entry-entry-requires-clause-over
-entry-entry-requires-clause-over g t c = c.indices.ensures.over
-
-pub entry-entry-requires-clause-ready : goal.entry-entry-requires-clause-ready
-entry-entry-requires-clause-ready g t c = c.indices.ensures.ready
-
 pub entry-returns-clause-keeps : goal.entry-returns-clause-keeps
 entry-returns-clause-keeps g t c = followed c.args.t.now c.indices.new.t c.entry.new.t c.indices.ensures.keeps c.entry.ensures.keeps
 
-pub entry-returns-in_err-index-clause-keeps : goal.entry-returns-in_err-index-clause-keeps
-entry-returns-in_err-index-clause-keeps g t c = c.indices.ensures.keeps
-
 pub entry-returns-in_err-made-clause-keeps : goal.entry-returns-in_err-made-clause-keeps
 entry-returns-in_err-made-clause-keeps g t c = followed c.args.t.now c.indices.new.t c.entry.new.t c.indices.ensures.keeps c.entry.ensures.keeps
-
-pub indices-lasting-requires-clause-over : goal.indices-lasting-requires-clause-over
-indices-lasting-requires-clause-over g t c = c.requires.over
-
-pub indices-lasting-requires-clause-ready : goal.indices-lasting-requires-clause-ready
-indices-lasting-requires-clause-ready g t c = c.requires.ready
-
-pub indices-returns-clause-keeps : goal.indices-returns-clause-keeps
-indices-returns-clause-keeps g t c = c.each.invariant.keeps
 
 pub indices-returns-clause-lasts : goal.indices-returns-clause-lasts
 indices-returns-clause-lasts g t c = c.lasting.ensures.lasts c.each.t c.each.invariant.keeps
@@ -590,89 +494,23 @@ indices-returns-in_err-limit-clause-keeps g t c = followed c.args.t.now c.each.t
 pub indices-returns-in_err-limit-clause-lasts : goal.indices-returns-in_err-limit-clause-lasts
 indices-returns-in_err-limit-clause-lasts g t c = λ base old h. c.limited.ensures.lasts base old (c.lasting.ensures.lasts c.each.t c.each.invariant.keeps base old h)
 
-pub indices-returns-in_err-limit-clause-over : goal.indices-returns-in_err-limit-clause-over
-indices-returns-in_err-limit-clause-over g t c = c.limited.ensures.over
-
-pub indices-returns-in_err-limit-clause-ready : goal.indices-returns-in_err-limit-clause-ready
-indices-returns-in_err-limit-clause-ready g t c = c.limited.ensures.ready
-
 pub indices-returns-in_err-push-clause-keeps : goal.indices-returns-in_err-push-clause-keeps
 indices-returns-in_err-push-clause-keeps g t c = followed c.args.t.now c.each.t c.limited.new.t c.each.invariant.keeps c.limited.ensures.keeps
 
 pub indices-returns-in_err-push-clause-lasts : goal.indices-returns-in_err-push-clause-lasts
 indices-returns-in_err-push-clause-lasts g t c = λ base old h. c.limited.ensures.lasts base old (c.lasting.ensures.lasts c.each.t c.each.invariant.keeps base old h)
 
-pub indices-returns-in_err-push-clause-over : goal.indices-returns-in_err-push-clause-over
-indices-returns-in_err-push-clause-over g t c = c.limited.ensures.over
-
-pub indices-returns-in_err-push-clause-ready : goal.indices-returns-in_err-push-clause-ready
-indices-returns-in_err-push-clause-ready g t c = c.limited.ensures.ready
-
-pub limited-returns-clause-keeps : goal.limited-returns-clause-keeps
-limited-returns-clause-keeps g t c = c.term.ensures.keeps
-
-pub limited-returns-clause-lasts : goal.limited-returns-clause-lasts
-limited-returns-clause-lasts g t c = c.term.ensures.lasts
-
-pub limited-returns-clause-over : goal.limited-returns-clause-over
-limited-returns-clause-over g t c = c.term.ensures.over
-
-pub limited-returns-clause-ready : goal.limited-returns-clause-ready
-limited-returns-clause-ready g t c = c.term.ensures.ready
-
-pub limited-returns-in_err-term-clause-keeps : goal.limited-returns-in_err-term-clause-keeps
-limited-returns-in_err-term-clause-keeps g t c = c.term.ensures.keeps
-
-pub limited-returns-in_err-term-clause-lasts : goal.limited-returns-in_err-term-clause-lasts
-limited-returns-in_err-term-clause-lasts g t c = c.term.ensures.lasts
-
-pub limited-returns-in_err-term-clause-over : goal.limited-returns-in_err-term-clause-over
-limited-returns-in_err-term-clause-over g t c = c.term.ensures.over
-
-pub limited-returns-in_err-term-clause-ready : goal.limited-returns-in_err-term-clause-ready
-limited-returns-in_err-term-clause-ready g t c = c.term.ensures.ready
-
-pub load-path-requires-clause-over : goal.load-path-requires-clause-over
-load-path-requires-clause-over g t c = c.step_indices.ensures.over
-
-pub load-path-requires-clause-ready : goal.load-path-requires-clause-ready
-load-path-requires-clause-ready g t c = c.step_indices.ensures.ready
-
 pub load-returns-clause-keeps : goal.load-returns-clause-keeps
 load-returns-clause-keeps g t c = followed c.args.t.now c.step_indices.new.t c.path.new.t c.step_indices.ensures.keeps c.path.ensures.keeps
-
-pub load-returns-in_err-index-clause-keeps : goal.load-returns-in_err-index-clause-keeps
-load-returns-in_err-index-clause-keeps g t c = c.step_indices.ensures.keeps
 
 pub load-returns-in_err-made-clause-keeps : goal.load-returns-in_err-made-clause-keeps
 load-returns-in_err-made-clause-keeps g t c = followed c.args.t.now c.step_indices.new.t c.path.new.t c.step_indices.ensures.keeps c.path.ensures.keeps
 
-pub some_hold-lasting-requires-clause-over : goal.some_hold-lasting-requires-clause-over
-some_hold-lasting-requires-clause-over g t c = c.requires.over
-
-pub some_hold-lasting-requires-clause-ready : goal.some_hold-lasting-requires-clause-ready
-some_hold-lasting-requires-clause-ready g t c = c.requires.ready
-
-pub some_hold-returns-clause-keeps : goal.some_hold-returns-clause-keeps
-some_hold-returns-clause-keeps g t c = c.each.invariant.keeps
-
 pub some_hold-returns-in_err-made-2-clause-keeps : goal.some_hold-returns-in_err-made-2-clause-keeps
 some_hold-returns-in_err-made-2-clause-keeps g t c = followed c.args.t.now c.term.new.t c.either.new.t (followed c.args.t.now c.each.t c.term.new.t c.each.invariant.keeps c.term.ensures.keeps) c.either.ensures.keeps
 
-pub some_hold-returns-in_err-made-clause-keeps : goal.some_hold-returns-in_err-made-clause-keeps
-some_hold-returns-in_err-made-clause-keeps g t c = c.number.ensures.keeps
-
 pub some_hold-returns-in_err-next-clause-keeps : goal.some_hold-returns-in_err-next-clause-keeps
 some_hold-returns-in_err-next-clause-keeps g t c = followed c.args.t.now c.each.t c.term.new.t c.each.invariant.keeps c.term.ensures.keeps
-
-pub step_indices-lasting-requires-clause-over : goal.step_indices-lasting-requires-clause-over
-step_indices-lasting-requires-clause-over g t c = c.requires.over
-
-pub step_indices-lasting-requires-clause-ready : goal.step_indices-lasting-requires-clause-ready
-step_indices-lasting-requires-clause-ready g t c = c.requires.ready
-
-pub step_indices-returns-clause-keeps : goal.step_indices-returns-clause-keeps
-step_indices-returns-clause-keeps g t c = c.each.invariant.keeps
 
 pub step_indices-returns-clause-lasts : goal.step_indices-returns-clause-lasts
 step_indices-returns-clause-lasts g t c = c.lasting.ensures.lasts c.each.t c.each.invariant.keeps
@@ -689,32 +527,11 @@ step_indices-returns-in_err-limit-clause-keeps g t c = followed c.args.t.now c.e
 pub step_indices-returns-in_err-limit-clause-lasts : goal.step_indices-returns-in_err-limit-clause-lasts
 step_indices-returns-in_err-limit-clause-lasts g t c = λ base old h. c.limited.ensures.lasts base old (c.lasting.ensures.lasts c.each.t c.each.invariant.keeps base old h)
 
-pub step_indices-returns-in_err-limit-clause-over : goal.step_indices-returns-in_err-limit-clause-over
-step_indices-returns-in_err-limit-clause-over g t c = c.limited.ensures.over
-
-pub step_indices-returns-in_err-limit-clause-ready : goal.step_indices-returns-in_err-limit-clause-ready
-step_indices-returns-in_err-limit-clause-ready g t c = c.limited.ensures.ready
-
 pub step_indices-returns-in_err-push-clause-keeps : goal.step_indices-returns-in_err-push-clause-keeps
 step_indices-returns-in_err-push-clause-keeps g t c = followed c.args.t.now c.each.t c.limited.new.t c.each.invariant.keeps c.limited.ensures.keeps
 
 pub step_indices-returns-in_err-push-clause-lasts : goal.step_indices-returns-in_err-push-clause-lasts
 step_indices-returns-in_err-push-clause-lasts g t c = λ base old h. c.limited.ensures.lasts base old (c.lasting.ensures.lasts c.each.t c.each.invariant.keeps base old h)
-
-pub step_indices-returns-in_err-push-clause-over : goal.step_indices-returns-in_err-push-clause-over
-step_indices-returns-in_err-push-clause-over g t c = c.limited.ensures.over
-
-pub step_indices-returns-in_err-push-clause-ready : goal.step_indices-returns-in_err-push-clause-ready
-step_indices-returns-in_err-push-clause-ready g t c = c.limited.ensures.ready
-
-pub term-lasting-requires-clause-over : goal.term-lasting-requires-clause-over
-term-lasting-requires-clause-over g t c = c.requires.over
-
-pub term-lasting-requires-clause-ready : goal.term-lasting-requires-clause-ready
-term-lasting-requires-clause-ready g t c = c.requires.ready
-
-pub term-returns-clause-keeps : goal.term-returns-clause-keeps
-term-returns-clause-keeps g t c = c.build.ensures.keeps
 
 pub term-returns-clause-lasts : goal.term-returns-clause-lasts
 term-returns-clause-lasts g t c = c.lasting.ensures.lasts c.build.new.t c.build.ensures.keeps
@@ -725,9 +542,6 @@ term-returns-clause-over g t c = c.lasting.ensures.over c.build.new.t c.build.en
 pub term-returns-clause-ready : goal.term-returns-clause-ready
 term-returns-clause-ready g t c = c.lasting.ensures.ready c.build.new.t c.build.ensures.keeps
 
-pub term-returns-in_err-made-clause-keeps : goal.term-returns-in_err-made-clause-keeps
-term-returns-in_err-made-clause-keeps g t c = c.build.ensures.keeps
-
 pub term-returns-in_err-made-clause-lasts : goal.term-returns-in_err-made-clause-lasts
 term-returns-in_err-made-clause-lasts g t c = c.lasting.ensures.lasts c.build.new.t c.build.ensures.keeps
 
@@ -736,21 +550,6 @@ term-returns-in_err-made-clause-over g t c = c.lasting.ensures.over c.build.new.
 
 pub term-returns-in_err-made-clause-ready : goal.term-returns-in_err-made-clause-ready
 term-returns-in_err-made-clause-ready g t c = c.lasting.ensures.ready c.build.new.t c.build.ensures.keeps
-
-pub term_knowing-lasting-requires-clause-over : goal.term_knowing-lasting-requires-clause-over
-term_knowing-lasting-requires-clause-over g t c = c.requires.over
-
-pub term_knowing-lasting-requires-clause-ready : goal.term_knowing-lasting-requires-clause-ready
-term_knowing-lasting-requires-clause-ready g t c = c.requires.ready
-
-pub term_knowing-ready_where-requires-clause-known : goal.term_knowing-ready_where-requires-clause-known
-term_knowing-ready_where-requires-clause-known g t c = c.requires.known
-
-pub term_knowing-ready_where-requires-clause-ready : goal.term_knowing-ready_where-requires-clause-ready
-term_knowing-ready_where-requires-clause-ready g t c = c.requires.ready
-
-pub term_knowing-returns-clause-keeps : goal.term_knowing-returns-clause-keeps
-term_knowing-returns-clause-keeps g t c = c.term.ensures.keeps
 
 pub term_knowing-returns-clause-lasts : goal.term_knowing-returns-clause-lasts
 term_knowing-returns-clause-lasts g t c = c.lasting.ensures.lasts c.term.new.t c.term.ensures.keeps
@@ -761,9 +560,6 @@ term_knowing-returns-clause-over g t c = c.lasting.ensures.over c.term.new.t c.t
 pub term_knowing-returns-clause-ready : goal.term_knowing-returns-clause-ready
 term_knowing-returns-clause-ready g t c = c.lasting.ensures.ready c.term.new.t c.term.ensures.keeps
 
-pub term_knowing-returns-in_err-made-clause-keeps : goal.term_knowing-returns-in_err-made-clause-keeps
-term_knowing-returns-in_err-made-clause-keeps g t c = c.term.ensures.keeps
-
 pub term_knowing-returns-in_err-made-clause-lasts : goal.term_knowing-returns-in_err-made-clause-lasts
 term_knowing-returns-in_err-made-clause-lasts g t c = c.lasting.ensures.lasts c.term.new.t c.term.ensures.keeps
 
@@ -773,41 +569,11 @@ term_knowing-returns-in_err-made-clause-over g t c = c.lasting.ensures.over c.te
 pub term_knowing-returns-in_err-made-clause-ready : goal.term_knowing-returns-in_err-made-clause-ready
 term_knowing-returns-in_err-made-clause-ready g t c = c.lasting.ensures.ready c.term.new.t c.term.ensures.keeps
 
-pub term_where-returns-clause-keeps : goal.term_where-returns-clause-keeps
-term_where-returns-clause-keeps g t c = c.term_knowing.ensures.keeps
-
-pub term_where-returns-clause-lasts : goal.term_where-returns-clause-lasts
-term_where-returns-clause-lasts g t c = c.term_knowing.ensures.lasts
-
-pub term_where-returns-clause-over : goal.term_where-returns-clause-over
-term_where-returns-clause-over g t c = c.term_knowing.ensures.over
-
-pub term_where-returns-clause-ready : goal.term_where-returns-clause-ready
-term_where-returns-clause-ready g t c = c.term_knowing.ensures.ready
-
 pub term_where-returns-in_err-found-clause-keeps : goal.term_where-returns-in_err-found-clause-keeps
 term_where-returns-in_err-found-clause-keeps g t c = unchanged c.args.t.now
 
 pub term_where-returns-in_err-found-clause-lasts : goal.term_where-returns-in_err-found-clause-lasts
 term_where-returns-in_err-found-clause-lasts g t c = λ base old h. h
-
-pub term_where-returns-in_err-found-clause-over : goal.term_where-returns-in_err-found-clause-over
-term_where-returns-in_err-found-clause-over g t c = c.requires.over
-
-pub term_where-returns-in_err-found-clause-ready : goal.term_where-returns-in_err-found-clause-ready
-term_where-returns-in_err-found-clause-ready g t c = c.requires.ready
-
-pub term_where-returns-in_err-made-clause-keeps : goal.term_where-returns-in_err-made-clause-keeps
-term_where-returns-in_err-made-clause-keeps g t c = c.term_knowing.ensures.keeps
-
-pub term_where-returns-in_err-made-clause-lasts : goal.term_where-returns-in_err-made-clause-lasts
-term_where-returns-in_err-made-clause-lasts g t c = c.term_knowing.ensures.lasts
-
-pub term_where-returns-in_err-made-clause-over : goal.term_where-returns-in_err-made-clause-over
-term_where-returns-in_err-made-clause-over g t c = c.term_knowing.ensures.over
-
-pub term_where-returns-in_err-made-clause-ready : goal.term_where-returns-in_err-made-clause-ready
-term_where-returns-in_err-made-clause-ready g t c = c.term_knowing.ensures.ready
 
 pub build-returns-in_ok-made-in-Const-clause-term : goal.build-returns-in_ok-made-in-Const-clause-term
 build-returns-in_ok-made-in-Const-clause-term g t c = λ base old lasts.
