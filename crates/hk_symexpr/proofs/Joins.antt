@@ -1,7 +1,6 @@
 -- The term of an expression from the terms of its parts.
-use Rattle.std.proofs.Common.{◌≡◌, ◌<◌, ◌≤◌, ◌+◌, ◌*◌, ◌%◌, ◌^◌, ◌&&◌, ℕ, zero, suc, Bool, true, false, Option, Some, None, option_map, List, [], ◌∷◌, ◌++◌, length, map, refl, sym, ap, subst, ◌∙◌, arith, rules, All, get_or, nat_eq, nat_lt, mod-eq_of_lt}
+use Rattle.std.proofs.Common.{◌≡◌, ◌<◌, ◌≤◌, ◌+◌, ◌*◌, ◌%◌, ◌^◌, ◌&&◌, ℕ, zero, suc, Bool, true, false, Option, Some, None, option_map, List, [], ◌∷◌, length, refl, sym, ap, subst, ◌∙◌, arith, All, get_or, nat_eq, nat_lt, mod-eq_of_lt}
 use Rattle.std.specs.Prelude.{if◌then◌else◌, not, ◌||◌, slice_get, slice_index_or}
-use Rattle.std.specs.List.{list_all, list_any}
 use Rattle.std.proofs.Math.Nat.{mod-add-mod}
 use Rattle.std.proofs.lemmas.Bool.{ltb-true}
 use Rattle.std.proofs.lemmas.List.Elements.{All-cons}
@@ -13,14 +12,14 @@ use Rattle.spec_ast.specs.declared.kind.BinKind.TheVariants.{Implies}
 use Rattle.spec_tree.specs.declared.expr.StateName.{StateName}
 use Rattle.spec_tree.specs.declared.expr.StateName.TheVariants.{Old, New}
 use Rattle.spec_tree.specs.Plain.{Key, Tree, Trees, no_trees, tree_and, Steps, no_steps, step_and, entry, path, binary, choose, for_all, exists}
-use Rattle.spec_tree.specs.Sorted.{Context, FieldSort, IsSorted, AreIndices, AreSteps, AreTruths, Adds, LiesIn, with_bounds, width_of, no_field}
+use Rattle.spec_tree.specs.Sorted.{Context, IsSorted, AreIndices, AreSteps, Adds, with_bounds, no_field}
 use Rattle.spec_tree.specs.Value.{Env, value, values, holds, bit, tuples, binding, bytes_added, stepped, loaded, load, entry_at, place_behind, state_of}
 use Rattle.spec_tree.specs.Shapes.{AreBelow, IsMemory}
 use Rattle.spec_tree.proofs.Entries.{all_below}
 use Rattle.hk_symexpr.specs.Sources.{Source, Agrees, Rests, state_in}
 use Rattle.hk_symexpr.specs.Scope.{Scope, entered}
 use Rattle.hk_symexpr.specs.Naming.{Suits, AreLimited, AreSteady, AreIndexTerms, index_values, bounds_from, context_of}
-use Rattle.hk_symexpr.specs.Made.{Lasts, IsTermOf, IsTermWhere, IsLimitOf, AreLimitsOf, AreSorted, step_trees}
+use Rattle.hk_symexpr.specs.Made.{Lasts, IsTermOf, IsTermWhere, AreLimitsOf, AreSorted, step_trees}
 use Rattle.hk_symexpr.specs.Paths.{AreIndexed, led}
 use Rattle.hk_symexpr.specs.declared.names.Limit.{Limit}
 use Rattle.hk_symexpr.proofs.Suiting.{agrees_less, suits_beside, read_here}

@@ -1,15 +1,14 @@
 -- What suits goes on to suit: in a longer list, and under readings that differ in variables that are in no scope.
-use Rattle.std.proofs.Common.{◌≡◌, ◌<◌, ◌≤◌, ◌+◌, ◌++◌, ℕ, List, [], ◌∷◌, length, map, refl, sym, ap, subst, ◌∙◌, arith, All, get_or}
+use Rattle.std.proofs.Common.{◌≡◌, ◌<◌, ◌≤◌, ◌+◌, ℕ, List, [], ◌∷◌, length, refl, sym, subst, ◌∙◌, arith, All, get_or}
 use Rattle.std.proofs.lemmas.List.Elements.{All-head, All-tail}
-use Rattle.hk_term.specs.Shape.{width}
-use Rattle.hk_term.specs.Meaning.{Reading, value}
+use Rattle.hk_term.specs.Meaning.{Reading}
 use Rattle.hk_term.specs.declared.node.Node.{Node}
 use Rattle.spec_tree.specs.Plain.{Trees, Tree, no_trees, tree_and}
 use Rattle.spec_tree.specs.Sorted.{Context}
 use Rattle.spec_tree.specs.Value.{Env}
 use Rattle.hk_symexpr.specs.Sources.{Source, Agrees, Keeps}
 use Rattle.hk_symexpr.specs.Scope.{Scope}
-use Rattle.hk_symexpr.specs.Naming.{IsNamed, AreNames, IsRead, Suits, name_values, bounds_at, variables_from, AreLimited}
+use Rattle.hk_symexpr.specs.Naming.{IsNamed, AreNames, IsRead, Suits, name_values, bounds_at, AreLimited}
 use Rattle.hk_symexpr.specs.Made.{Ready, Lasts, IsTermOf, IsTermWhere, IsLimitOf, AreLimitsOf}
 use Rattle.hk_symexpr.specs.declared.names.NamedTerm.{NamedTerm}
 use Rattle.hk_symexpr.specs.declared.names.Limit.{Limit}

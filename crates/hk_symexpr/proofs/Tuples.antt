@@ -1,21 +1,20 @@
 -- All tuples of bound variables are all index tuples, and what suits goes on to suit under each.
 use Rattle.std.proofs.Common.{◌≡◌, ◌<◌, ◌≤◌, ◌+◌, ◌++◌, ◌&&◌, ℕ, zero, suc, Bool, true, false, List, [], ◌∷◌, length, map, refl, sym, ap, subst, ◌∙◌, arith, All, nat_eq, length-append}
-use Rattle.std.specs.Prelude.{if◌then◌else◌, not, ◌||◌}
+use Rattle.std.specs.Prelude.{not, ◌||◌}
 use Rattle.std.specs.List.{list_all, list_any, flat_map}
 use Rattle.std.proofs.lemmas.List.Elements.{All-head, All-tail}
 use Rattle.std.proofs.lemmas.Bool.Decides.{nat_tests}
-use Rattle.hk_term.specs.Shape.{width}
 use Rattle.hk_term.specs.Meaning as term
 use Rattle.hk_term.specs.Meaning.{Reading, with_var, every_below, every_tuple}
 use Rattle.hk_term.specs.declared.node.Node.{Node}
 use Rattle.spec_tree.specs.Plain.{Tree}
-use Rattle.spec_tree.specs.Sorted.{Context, with_bounds, width_of}
+use Rattle.spec_tree.specs.Sorted.{Context, with_bounds}
 use Rattle.spec_tree.specs.Value.{Env, below, tuples, binding, holds, value}
 use Rattle.spec_tree.specs.Shapes.{AreBelow}
 use Rattle.spec_tree.proofs.Entries.{all_below}
 use Rattle.hk_symexpr.specs.Sources.{Source, Agrees}
 use Rattle.hk_symexpr.specs.Scope.{Scope, entered}
-use Rattle.hk_symexpr.specs.Naming.{IsRead, Suits, bounds_at, bounds_from, variables_from}
+use Rattle.hk_symexpr.specs.Naming.{Suits, bounds_at, bounds_from, variables_from}
 use Rattle.hk_symexpr.specs.Made.{IsTermOf}
 
 -- ---- lists

@@ -1,6 +1,6 @@
 -- One element more of a list of expressions, and what counts where more is known.
 use Rattle.std.proofs.Common.{rules, ◌≡◌, ◌<◌, ◌≤◌, ◌+◌, ◌++◌, ◌&&◌, ◌^◌, ℕ, zero, suc, Bool, true, false, List, [], ◌∷◌, length, take, drop, drop-cons, add-one, refl, sym, ap, subst, ◌∙◌, arith, All, get_or}
-use Rattle.std.specs.Prelude.{◌||◌, if◌then◌else◌, Some, slice_get, slice_index_or}
+use Rattle.std.specs.Prelude.{◌||◌, Some, slice_get, slice_index_or}
 use Rattle.std.specs.List.{list_all, list_any}
 use Rattle.std.proofs.lemmas.List.{take_more, take_all}
 use Rattle.hk_term.specs.Shape.{width}
@@ -26,7 +26,7 @@ use Rattle.hk_symexpr.specs.Made.{Ready, Lasts, IsTermOf, IsTermWhere, IsLimitOf
 use Rattle.hk_symexpr.specs.Paths.{path_tree}
 use Rattle.hk_symexpr.specs.declared.names.Limit.{Limit}
 use Rattle.hk_symexpr.proofs.Frames.{followed}
-use Rattle.hk_symexpr.proofs.Suiting.{suits_beside, suits_kept, limits_kept, limits_are_kept, read_here}
+use Rattle.hk_symexpr.proofs.Suiting.{suits_beside, suits_kept, limits_kept, limits_are_kept}
 
 -- ---- lists of the code
 

@@ -1,23 +1,21 @@
-use Rattle.std.proofs.Common.{rules, ◌≡◌, ◌<◌, ◌≤◌, ◌+◌, ◌++◌, ◌∷◌, [], ℕ, List, refl, sym, ap, ◌∙◌, subst, arith, drop, take, All, length}
-use Rattle.std.specs.Prelude.{slice_index_or}
+use Rattle.std.proofs.Common.{rules, ◌≡◌, ◌<◌, ◌+◌, sym, ap, ◌∙◌, subst, arith, take, All, length}
 use Rattle.hk_term.specs.Meaning as terms
 use Rattle.hk_term.specs.Meaning.{Reading}
-use Rattle.spec_tree.specs.Plain.{constant, argument, local, bound, entry, all_of, any_of, path, no_trees, unary, binary, choose, resize, for_all, exists}
+use Rattle.spec_tree.specs.Plain.{constant, argument, local, bound, entry, all_of, any_of, no_trees, unary, binary, choose, resize, for_all, exists}
 use Rattle.spec_tree.specs.declared.expr.Expr.TheVariants.{Const, Arg, Local, Bound, Entry, Kernel, Any, Un, Bin, Choose, Resize, ForAll, Exists, rolls-All, rolls-Const, rolls-Arg, rolls-Local, rolls-Bound, rolls-Entry, rolls-Kernel, rolls-Any, rolls-Un, rolls-Bin, rolls-Choose, rolls-Resize, rolls-ForAll, rolls-Exists}
 use Rattle.spec_tree.specs.declared.expr.Expr.TheVariants as variant
 use Rattle.spec_tree.specs.declared.expr.Expr.TheFolds.{fold-roll-Expr}
 use Rattle.spec_tree.specs.View.{view_expr, view_exprs, view_expr_list, view_path, view_steps, view_step_list}
 use Rattle.spec_tree.specs.Sorted.{FieldSort, AreTruths, AreSteps, IsSorted, FitsClass, class_of, no_field}
-use Rattle.hk_symexpr.specs.Sources.{Source, Keeps}
 use Rattle.hk_symexpr.specs.Scope.{scope_of, knowing}
 use Rattle.hk_symexpr.specs.Naming.{AreLimited, AreIndexTerms, context_of}
 use Rattle.hk_symexpr.specs.Made.{AreSorted, AreLimitsOf, IsLimitOf, IsTermOf, step_trees}
-use Rattle.hk_symexpr.specs.Paths.{AreIndexed, path_tree}
+use Rattle.hk_symexpr.specs.Paths.{path_tree}
 use Rattle.hk_symexpr.proofs.Frames.{followed, unchanged}
 use Rattle.hk_symexpr.proofs.Suiting.{lasts_here, term_kept, term_from, where_kept}
 use Rattle.hk_symexpr.proofs.Leaves.{known_most_kept}
-use Rattle.hk_symexpr.proofs.Joins.{indices_are, indices_sorted, indexed_of, steps_sorted, truth_small}
-use Rattle.hk_symexpr.proofs.Walks.{list_is, step_list_is, step_index, steps_are, path_is_tree, sorted_at, truths_at, steps_at, limits_turn, limits_end, step_limits_turn, step_limits_end, where_is, names_knowing, all_turn, any_turn, all_end, any_end, term_entered, width_entered, got_is, got_within}
+use Rattle.hk_symexpr.proofs.Joins.{indices_are, indexed_of, truth_small}
+use Rattle.hk_symexpr.proofs.Walks.{list_is, step_list_is, step_index, path_is_tree, sorted_at, truths_at, steps_at, limits_turn, limits_end, step_limits_turn, step_limits_end, where_is, names_knowing, all_turn, any_turn, all_end, any_end, term_entered, width_entered, got_is, got_within}
 use Rattle.hk_symexpr.proofs.build.+term.Goals as goal
 
 pub term-returns-clause-within : goal.term-returns-clause-within

@@ -1,5 +1,3 @@
-use Rattle.std.proofs.Common.{◌<◌, arith}
-use Rattle.hk_term.specs.Meaning.{Reading, value}
 use Rattle.hk_symexpr.specs.Scope.{scope_of}
 use Rattle.hk_symexpr.proofs.Joins.{choice_is, truth_small}
 use Rattle.hk_symexpr.proofs.join.choice.Goals as goal

@@ -1,4 +1,4 @@
-use Rattle.std.proofs.Common.{◌≤◌, ℕ, List, take}
+use Rattle.std.proofs.Common.{◌≤◌, List}
 use Rattle.hk_term.specs.Meaning.{Reading, value}
 use Rattle.hk_term.specs.declared.node.Node.{Node}
 use Rattle.hk_symexpr.specs.Naming.{AreLimited}

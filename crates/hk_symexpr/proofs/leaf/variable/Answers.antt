@@ -1,5 +1,4 @@
-use Rattle.std.proofs.Common.{rules, ◌≡◌, ◌<◌, ◌≤◌, ◌+◌, ◌^◌, length, refl, subst, slice_index, sym}
-use Rattle.hk_term.specs.Meaning.{Reading, value}
+use Rattle.std.proofs.Common.{rules, ◌<◌, ◌≤◌, ◌+◌, length, refl}
 use Rattle.hk_symexpr.specs.Scope.{scope_of}
 use Rattle.hk_symexpr.proofs.Leaves.{key_is, variable_is, at_key, cut_is}
 use Rattle.hk_symexpr.proofs.leaf.variable.Goals as goal

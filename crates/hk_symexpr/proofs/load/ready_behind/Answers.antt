@@ -1,9 +1,5 @@
-use Rattle.std.proofs.Common.{◌≡◌, ◌<◌, ◌≤◌, ◌+◌, ◌++◌, ◌^◌, ℕ, List, length, subst, sym, ap, arith, ◌∙◌}
 use Rattle.spec_tree.specs.View.{view_expr}
-use Rattle.spec_tree.specs.Sorted.{Context, IsSorted}
-use Rattle.hk_symexpr.specs.Scope.{scope_of, Scope}
-use Rattle.hk_symexpr.specs.Naming.{context_of}
-use Rattle.hk_symexpr.specs.Made.{Ready}
+use Rattle.hk_symexpr.specs.Scope.{scope_of}
 use Rattle.hk_symexpr.proofs.Walks.{ready_entered, ids_entered, sorted_entered}
 use Rattle.hk_symexpr.proofs.load.ready_behind.Goals as goal
 
