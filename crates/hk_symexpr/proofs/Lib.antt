@@ -1,0 +1,6 @@
+mod Frames
+mod Suiting
+mod Tuples
+mod Leaves
+mod Joins
+mod Walks

@@ -1,0 +1,9 @@
+use Rattle.hk_symexpr.specs.Scope.{scope_of}
+use Rattle.hk_symexpr.proofs.Joins.{exists_is}
+use Rattle.hk_symexpr.proofs.join.exists.Goals as goal
+
+pub returns-clause-term : goal.returns-clause-term
+returns-clause-term c =
+    λ base d old e h.
+    exists_is base _ old (scope_of c.args.names.now) c.args.t.now c.some.new.t c.args.body c.in_ok-made.made c.next_id.result c.args.sizes.now e c.requires.keys c.next_id.ensures
+    c.in_ok-made.ensures.within c.in_ok-made.ensures.width c.in_ok-made.ensures.value h

@@ -1,0 +1,5 @@
+pub mod Sources
+pub mod Scope
+pub mod Naming
+pub mod Made
+pub mod Paths
