@@ -1,0 +1,4 @@
+pub mod Sources
+pub mod Scope
+pub mod Naming
+pub mod Made

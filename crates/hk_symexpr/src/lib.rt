@@ -1,0 +1,16 @@
+//! Expressions of specifications as terms.
+//!
+//! Stands on terms, their constructors that simplify, and the trees of specifications. In come an expression, what its names stand
+//! for, and what it reads, by a trait; out goes a term that has, under every reading of variables and arrays, the number that the
+//! expression has over what is read then. Quantifiers become quantifiers over variables whose ids go by their places.
+#![tactic(auto)]
+
+mod conditions;
+mod names;
+mod reads;
+mod term;
+
+pub use conditions::learn;
+pub use names::{Limit, NamedTerm, Names};
+pub use reads::SymReads;
+pub use term::term_of;

@@ -1,0 +1,5 @@
+pub mod States
+pub mod Standing
+pub mod Formulas
+pub mod Ranges
+pub mod KernelLaws
