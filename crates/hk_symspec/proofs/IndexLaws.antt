@@ -1,5 +1,5 @@
 -- Index tuples as terms.
-use Rattle.std.proofs.Common.{◌≡◌, ℕ, zero, suc, ◌+◌, ◌-◌, ◌^◌, ◌<◌, ◌≤◌, Bool, true, false, ◌&&◌, Some, List, [], ◌∷◌, length, map, drop, refl, sym, ◌∙◌, ap, subst, arith, inl, inr, ◌⊎◌}
+use Rattle.std.proofs.Common.{◌≡◌, ℕ, zero, suc, ◌+◌, ◌-◌, ◌^◌, ◌<◌, ◌≤◌, Bool, true, false, ◌&&◌, Some, List, [], ◌∷◌, length, map, drop, refl, sym, ◌∙◌, ap, subst, arith, add-one}
 use Rattle.std.specs.Prelude.{All, slice_get, nat_lt, bit_and}
 use Rattle.std.proofs.lemmas.Bool.{lt-ltb}
 use Rattle.hk_term.specs.Operations.{bit}
@@ -71,7 +71,7 @@ pub tests_on : (nodes : List Node) (keys : List Key) (index : List Limit) (k : �
 tests_on nodes keys index k v n m key i a b step t = record {
     so = t.so && nat_lt (value nodes i.term v) key.size;
     is = step t.so (nat_lt (value nodes i.term v) key.size) t.is refl;
-    left = ap (λ q. (t.so && nat_lt (value nodes i.term v) key.size) && in_range (drop q keys) (index_values nodes (drop q index) v)) (omega arith)
+    left = ap (λ q. (t.so && nat_lt (value nodes i.term v) key.size) && in_range (drop q keys) (index_values nodes (drop q index) v)) (add-one k)
         ∙ and_assoc t.so (nat_lt (value nodes i.term v) key.size) (in_range (drop (suc k) keys) (index_values nodes (drop (suc k) index) v))
         ∙ ap (λ r. t.so && r) (sym next) ∙ t.left;
   }

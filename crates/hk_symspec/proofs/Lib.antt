@@ -7,3 +7,8 @@ pub mod WriteLaws
 pub mod OverlayLaws
 pub mod EquationLaws
 pub mod ArrayLaws
+pub mod BlindLaws
+pub mod ReadLaws
+pub mod StateReading
+pub mod StateMaking
+pub mod FreeLaws

@@ -2,7 +2,6 @@
 use Rattle.std.proofs.Common.{◌≡◌, ℕ, zero, suc, ◌+◌, ◌^◌, ◌<◌, ◌≤◌, List, [], ◌∷◌, ◌++◌, length, map, drop, drop-cons, add-one, refl, sym, ◌∙◌, ap, subst, arith, get_or}
 use Rattle.std.specs.Prelude.{All, Some}
 use Rattle.std.proofs.lemmas.List.{map-append}
-use Rattle.std.proofs.lemmas.List.Elements.{All-head, All-tail}
 use Rattle.hk_term.specs.Shape.{width}
 use Rattle.hk_term.specs.Meaning as term
 use Rattle.hk_term.specs.Meaning.{Reading}
@@ -16,6 +15,7 @@ use Rattle.hk_symexpr.specs.Sources.{Source, Agrees}
 use Rattle.hk_symexpr.specs.Naming.{IsNamed, IsRead, name_values}
 use Rattle.hk_symexpr.specs.declared.names.NamedTerm.{NamedTerm}
 use Rattle.hk_symspec.specs.Standing.{IsKernelOver, IsSteadyMemory}
+use Rattle.hk_symspec.specs.KeptLaws.{names_kept}
 use Rattle.hk_symspec.specs.Formulas.{IsFormula, Reads, formula_context, formula_scope}
 
 pub agrees_then : (limit : ℕ) (v u w : Reading) → Agrees limit v u → Agrees limit u w → Agrees limit v w
@@ -23,12 +23,6 @@ agrees_then limit v u w a b = record { entry = b.entry ∙ a.entry; var = λ id 
 
 pub agrees_self : (limit : ℕ) (v : Reading) → Agrees limit v v
 agrees_self limit v = record { entry = refl; var = λ id l. refl }
-
-pub names_kept : (old new : List Node) (names : List NamedTerm) (u : Reading) → ((k : ℕ) → k < length old → (v : Reading) → term.value new k v ≡ term.value old k v)
-    → All (IsNamed old) names → name_values new names u ≡ name_values old names u
-names_kept old new [] u keeps named = refl
-names_kept old new (n ∷ names) u keeps named =
-    λ i. keeps n.term (All-head (IsNamed old) n names named).within u i ∷ names_kept old new names u keeps (All-tail (IsNamed old) n names named) i
 
 -- what is read where one more name stands for the term of an expression
 pub reads_more : (source source' : Reading → Source) (c : Context) (old new : List Node) (args locals : List NamedTerm) (base : ℕ) (e : Tree) (n : NamedTerm)

@@ -1,7 +1,6 @@
 -- Entries behind writes, in a list of terms that grows.
-use Rattle.std.proofs.Common.{◌≡◌, ◌≢◌, ◌+◌, ◌<◌, ◌≤◌, ℕ, zero, suc, Bool, true, false, ◌&&◌, Option, Some, List, [], ◌∷◌, length, map, drop, arith, ap, sym, ◌∙◌, subst, refl}
+use Rattle.std.proofs.Common.{◌≡◌, ◌≢◌, ◌+◌, ◌<◌, ◌≤◌, ℕ, zero, suc, Bool, true, false, ◌&&◌, Option, Some, List, [], ◌∷◌, length, map, drop, arith, ap, sym, ◌∙◌, subst, refl, add-one}
 use Rattle.std.specs.Prelude.{All, if◌then◌else◌, nat_eq, slice_get, slice_index, slice_index_or}
-use Rattle.std.proofs.lemmas.List.Elements.{All-head, All-tail}
 use Rattle.hk_term.specs.Operations.{bit}
 use Rattle.hk_term.specs.Shape.{width}
 use Rattle.hk_term.specs.Meaning.{Reading, value}
@@ -17,12 +16,10 @@ use Rattle.hk_symspec.specs.declared.write.EntryWrite.{EntryWrite}
 use Rattle.hk_symspec.specs.States.{after_write, after_writes, numbers_at}
 use Rattle.hk_symspec.specs.Standing.{AreKeyTerms, IsWriteOver}
 use Rattle.hk_symspec.specs.Ranges.{IsEntry, IsLong, same_numbers}
+use Rattle.hk_symspec.specs.KeptLaws.{KeepsValues, after_write_kept, after_writes_kept}
 use Rattle.hk_symspec.proofs.Turning.{left_at, none_left}
 use Rattle.hk_symspec.proofs.IndexLaws.{index_length}
 use Rattle.hk_symspec.proofs.WriteLaws.{entry_behind, other_field, write_long}
-
-abbrev pub KeepsValues : List Node → List Node → Type 0
-KeepsValues old new = (k : ℕ) → k < length old → (v : Reading) → value new k v ≡ value old k v
 
 pub key_length : (nodes : List Node) (keys : List Key) (index : List ℕ) → AreKeyTerms nodes keys index → length index ≡ length keys
 key_length nodes [] index h = ap length h
@@ -39,11 +36,6 @@ key_term_at nodes (x ∷ ks) (y ∷ is) zero key i h a b =
     (subst P d h.0, ap (width nodes) (sym d) ∙ h.1 ∙ ap (λ z. z.width) e)
 key_term_at nodes (x ∷ ks) (y ∷ is) (suc k) key i h a b = key_term_at nodes ks is k key i h.2 a b
 
-pub numbers_kept : (old new : List Node) (keys : List Key) (index : List ℕ) (v : Reading) → KeepsValues old new → AreKeyTerms old keys index → numbers_at new index v ≡ numbers_at old index v
-numbers_kept old new [] index v keeps h = ap (λ l. numbers_at new l v) h ∙ ap (λ l. numbers_at old l v) (sym h)
-numbers_kept old new (k ∷ ks) [] v keeps h = absurd h
-numbers_kept old new (k ∷ ks) (i ∷ is) v keeps h = λ n. keeps i h.0 v n ∷ numbers_kept old new ks is v keeps h.2 n
-
 pub indices_kept : (old new : List Node) (keys : List Key) (index : List Limit) (v : Reading) → KeepsValues old new → AreIndexTerms old keys index → index_values new index v ≡ index_values old index v
 indices_kept old new [] index v keeps h = ap (λ l. index_values new l v) h ∙ ap (λ l. index_values old l v) (sym h)
 indices_kept old new (k ∷ ks) [] v keeps h = absurd h
@@ -54,37 +46,6 @@ pub index_terms_kept : (old new : List Node) (keys : List Key) (index : List Lim
 index_terms_kept old new [] index longer keeps h = h
 index_terms_kept old new (k ∷ ks) [] longer keeps h = h
 index_terms_kept old new (k ∷ ks) (i ∷ is) longer keeps h = (omega (arith, h.0, longer), keeps i.term h.0 ∙ h.1, index_terms_kept old new ks is longer keeps h.2)
-
-key_terms_kept : (old new : List Node) (keys : List Key) (index : List ℕ) → length old ≤ length new → ((k : ℕ) → k < length old → width new k ≡ width old k)
-    → AreKeyTerms old keys index → AreKeyTerms new keys index
-key_terms_kept old new [] index longer keeps h = h
-key_terms_kept old new (k ∷ ks) [] longer keeps h = h
-key_terms_kept old new (k ∷ ks) (i ∷ is) longer keeps h = (omega (arith, h.0, longer), keeps i h.0 ∙ h.1, key_terms_kept old new ks is longer keeps h.2)
-
-pub write_kept : (fields : List FieldSort) (old new : List Node) (w : EntryWrite) → length old ≤ length new → ((k : ℕ) → k < length old → width new k ≡ width old k)
-    → IsWriteOver fields old w → IsWriteOver fields new w
-write_kept fields old new w longer keeps o = record {
-    field = o.field;
-    index = key_terms_kept old new (slice_index_or fields w.field no_field).keys w.index longer keeps o.index;
-    guard = omega (arith, o.guard, longer);
-    truth = keeps w.guard o.guard ∙ o.truth;
-    value = omega (arith, o.value, longer);
-    number = keeps w.value o.value ∙ o.number;
-  }
-
-pub after_write_kept : (fields : List FieldSort) (old new : List Node) (v : Reading) (w : EntryWrite) (state : State) → KeepsValues old new → IsWriteOver fields old w
-    → after_write fields new v w state ≡ after_write fields old v w state
-after_write_kept fields old new v w state keeps o =
-    λ n. if nat_eq (keeps w.guard o.guard v n) 1
-         then entry_set state w.field (place_behind 0 (slice_index_or fields w.field no_field).keys (numbers_kept old new (slice_index_or fields w.field no_field).keys w.index v keeps o.index n)) (keeps w.value o.value v n)
-         else state
-
-pub after_writes_kept : (fields : List FieldSort) (old new : List Node) (v : Reading) (ws : List EntryWrite) (state : State) → KeepsValues old new → All (IsWriteOver fields old) ws
-    → after_writes fields new v ws state ≡ after_writes fields old v ws state
-after_writes_kept fields old new v [] state keeps o = refl
-after_writes_kept fields old new v (w ∷ ws) state keeps o =
-    after_writes_kept fields old new v ws (after_write fields new v w state) keeps (All-tail (IsWriteOver fields old) w ws o)
-    ∙ ap (after_writes fields old v ws) (after_write_kept fields old new v w state keeps (All-head (IsWriteOver fields old) w ws o))
 
 pub after_long : (fields : List FieldSort) (nodes : List Node) (v : Reading) (w : EntryWrite) (state : State) → IsLong fields state → IsLong fields (after_write fields nodes v w state)
 after_long fields nodes v w state s =
@@ -201,7 +162,7 @@ pub matches_on : (nodes : List Node) (index : List ℕ) (other : List Limit) (k 
 matches_on nodes index other k v p n m i j a b step t = record {
     so = t.so && nat_eq (value nodes i v) (value nodes j.term v);
     is = step t.so (nat_eq (value nodes i v) (value nodes j.term v)) t.is refl;
-    left = ap (λ q. (t.so && nat_eq (value nodes i v) (value nodes j.term v)) && same_numbers (numbers_at nodes (drop q index) v) (index_values nodes (drop q other) v)) (omega arith)
+    left = ap (λ q. (t.so && nat_eq (value nodes i v) (value nodes j.term v)) && same_numbers (numbers_at nodes (drop q index) v) (index_values nodes (drop q other) v)) (add-one k)
         ∙ and_assoc t.so (nat_eq (value nodes i v) (value nodes j.term v)) (same_numbers (numbers_at nodes (drop (suc k) index) v) (index_values nodes (drop (suc k) other) v))
         ∙ ap (λ r. t.so && r) (sym next) ∙ t.left;
   }
@@ -215,3 +176,29 @@ pub matches_end : (nodes : List Node) (index : List ℕ) (other : List Limit) (k
     → n ≡ bit (p && same_numbers (numbers_at nodes index v) (index_values nodes other v))
 matches_end nodes index other k v p n high t =
     t.is ∙ ap bit (sym (and_true t.so) ∙ ap (λ l. t.so && same_numbers (numbers_at nodes l v) (index_values nodes (drop k other) v)) (sym (none_left index k high)) ∙ t.left)
+
+-- the terms at one place of two index tuples
+pub record Pair (nodes : List Node) (i : ℕ) (j : Limit) : Type 0 where
+  pub first : i < length nodes
+  pub second : j.term < length nodes
+  pub widths : width nodes i ≡ width nodes j.term
+
+pub pair_at : (nodes : List Node) (keys : List Key) (index : List ℕ) (other : List Limit) (k : ℕ) (i : ℕ) (j : Limit) → AreKeyTerms nodes keys index → AreIndexTerms nodes keys other
+    → slice_get index k ≡ Some i → slice_get other k ≡ Some j → Pair nodes i j
+pair_at nodes [] index other k i j h g a b = cc_none (sym (ap (λ l. slice_get l k) h) ∙ a)
+  where
+    cc_none : slice_get [] k ≡ Some i → Pair nodes i j
+    cc_none e = cc
+pair_at nodes (x ∷ ks) [] other k i j h g a b = absurd h
+pair_at nodes (x ∷ ks) (y ∷ is) [] k i j h g a b = absurd g
+pair_at nodes (x ∷ ks) (y ∷ is) (z ∷ js) zero i j h g a b =
+    let d : y ≡ i = cc in let e : z ≡ j = cc in
+    let P : ℕ → Type 0 = λ n. n < length nodes in
+    record { first = subst P d h.0; second = subst P (ap (λ l. l.term) e) g.0; widths = ap (width nodes) (sym d) ∙ h.1 ∙ sym g.1 ∙ ap (λ l. width nodes l.term) e }
+pair_at nodes (x ∷ ks) (y ∷ is) (z ∷ js) (suc k) i j h g a b = pair_at nodes ks is js k i j h.2 g.2 a b
+
+-- a guard is a truth
+pub guard_bit : (n : ℕ) → n < 2 → n ≡ bit (nat_eq n 1)
+guard_bit zero l = refl
+guard_bit (suc zero) l = refl
+guard_bit (suc (suc n)) l = absurd (omega (arith, l))

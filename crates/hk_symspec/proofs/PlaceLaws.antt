@@ -53,11 +53,10 @@ below_sizes at (k ∷ ks) (i ∷ is) p l h =
 
 at_least : (a n i : ℕ) → i < n → a ≤ a * n + i
 at_least a n i l =
-    let more : a * 1 ≤ a * n = omega (arith, mul-le-mul_left a (omega (arith, l))) in
-    omega (arith, more)
-  where
-    mul-le-mul_left : (a : ℕ) {m n : ℕ} → m ≤ n → a * m ≤ a * n
-    mul-le-mul_left a {m} {n} h = let e : a * m ≡ m * a = omega arith in let d : a * n ≡ n * a = omega arith in omega (arith, e, d, mul-le-mul_right a h)
+    let some : 1 ≤ n = omega (arith, l) in
+    let more : 1 * a ≤ n * a = mul-le-mul_right a some in
+    let e : n * a ≡ a * n = omega arith in
+    omega (arith, more, e)
 
 -- a place is not below the places of the earlier indices
 pub place_above : (at : ℕ) (keys : List Key) (is : List ℕ) (p : ℕ) → place_behind at keys is ≡ Some p → at ≤ p

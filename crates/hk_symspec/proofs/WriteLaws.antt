@@ -1,7 +1,7 @@
 -- What a state has behind a write.
 use Rattle.std.proofs.Common.{◌≡◌, ◌≢◌, ◌<◌, ◌≤◌, ◌⊎◌, ℕ, zero, suc, Bool, true, false, ◌&&◌, Option, Some, None, List, [], ◌∷◌, length, get_or, set, arith, ap, sym, ◌∙◌, subst, refl, inl, inr}
 use Rattle.std.specs.Prelude.{if◌then◌else◌, nat_eq, slice_set, slice_index, slice_index_or}
-use Rattle.std.proofs.lemmas.Bool.{eqb-true}
+use Rattle.std.proofs.lemmas.Bool.{eqb-true, eq-eqb, cases_eq}
 use Rattle.std.proofs.lemmas.List.{length-set, get_or-set_same, get_or-set_other}
 use Rattle.hk_term.specs.Operations.{bit}
 use Rattle.spec_tree.specs.Plain.{Key}
@@ -12,11 +12,7 @@ use Rattle.hk_symspec.specs.Ranges.{IsLong, same_numbers}
 use Rattle.hk_symspec.proofs.PlaceLaws.{same_tuple}
 
 equal_or_not : (a b : ℕ) → (a ≡ b) ⊎ (a ≢ b)
-equal_or_not a b = by_test (nat_eq a b) refl
-  where
-    by_test : (t : Bool) → nat_eq a b ≡ t → (a ≡ b) ⊎ (a ≢ b)
-    by_test true e = inl (eqb-true a b e)
-    by_test false e = inr (omega (arith, e))
+equal_or_not a b = cases_eq a b
 
 set_long : (fields : List FieldSort) (state : State) (f p n : ℕ) → IsLong fields state → IsLong fields (entry_set state f (Some p) n)
 set_long fields state f p n s = record {
@@ -67,11 +63,7 @@ same_is (i ∷ is) (j ∷ js) l h = let t = parts (nat_eq i j) (same_numbers is 
     parts false b e = cc
 
 self_eq : (i : ℕ) → nat_eq i i ≡ true
-self_eq i = by_test (nat_eq i i) refl
-  where
-    by_test : (t : Bool) → nat_eq i i ≡ t → nat_eq i i ≡ true
-    by_test true e = e
-    by_test false e = absurd (omega (arith, e))
+self_eq i = eq-eqb i i refl
 
 self_same : (is : List ℕ) → same_numbers is is ≡ true
 self_same [] = refl

@@ -3,3 +3,4 @@ pub mod Standing
 pub mod Formulas
 pub mod Ranges
 pub mod KernelLaws
+pub mod KeptLaws

@@ -1,6 +1,6 @@
 //! Entries before any write: of the abstraction of a memory, and of arrays.
 
-ghost use Rattle.std.specs.Prelude.{◌≡◌, ℕ, ◌+◌, ◌*◌, ◌^◌, ◌<◌, ◌≤◌, Some, map, slice_get, slice_index_or, length, IfOk};
+ghost use Rattle.std.specs.Prelude.{◌≡◌, ℕ, ◌+◌, ◌*◌, ◌^◌, ◌<◌, ◌≤◌, Some, map, slice_index_or, length, IfOk};
 ghost use Rattle.hk_term.specs.Shape.{width, Grows};
 ghost use Rattle.hk_term.specs.Meaning.{Reading, value};
 ghost use Rattle.hk_symmem.specs.Guarded.{memory_at};
@@ -13,16 +13,16 @@ ghost use Rattle.hk_symspec.specs.States.{free_state};
 ghost use Rattle.hk_symspec.specs.Standing.{IsEquated, IsSteadyMemory, entry_base};
 ghost use Rattle.hk_symspec.specs.Ranges.{IsEntry};
 
+use crate::fields::{field_at, keys_of};
 use crate::formulas::objects_are_small;
 use crate::indices::{constant, key_at, limit_at, size_in};
 use crate::kernel::KernelReads;
 use crate::limits::ENTRY_BASE;
-use crate::overlay::keys_of;
 use hk_simplify::{add, mul, zero_extend};
 use hk_symexpr::{Limit, NamedTerm, Names, term_of};
 use hk_symmem::{InitialReads, SymMemory};
 use hk_term::{Node, TermId, Terms};
-use spec_tree::{Field, Sort, Spec};
+use spec_tree::{Sort, Spec};
 use std::alloc::{AllocError, Global};
 
 // The terms of indices.
@@ -45,13 +45,6 @@ fn sizes_of(alloc: Global, keys: &[Sort]) -> Result<Vec<u32>, AllocError>
         sizes.push(size_in(key))?;
     }
     Ok(sizes)
-}
-
-pub(crate) fn field_at(spec: &Spec, field: u32) -> &Field
-    requires { field < length spec.now.fields }
-    ensures { slice_get spec.now.fields field ≡ Some result.now }
-{
-    &spec.fields.as_slice()[field as usize]
 }
 
 // The entry of a field of the abstraction of a memory: the right side of the field's equation at the index terms.

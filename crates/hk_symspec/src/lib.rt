@@ -6,17 +6,24 @@
 //! through them: no call goes through index tuples.
 #![tactic(auto)]
 
+mod bases;
+mod entries;
+mod fields;
 mod formulas;
 mod indices;
 mod invariants;
 mod kernel;
+pub mod laws;
 mod limits;
 mod names;
 mod overlay;
+mod properties;
+mod reads;
 mod state;
 mod write;
 
 pub use invariants::invariant_term;
 pub use limits::{ENTRY_BASE, FORMULA_BASE};
+pub use properties::property_term;
 pub use state::SymAbstract;
 pub use write::EntryWrite;

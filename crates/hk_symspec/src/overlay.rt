@@ -12,6 +12,7 @@ ghost use Rattle.hk_symspec.specs.States.{after_write, after_writes, numbers_at}
 ghost use Rattle.hk_symspec.specs.Standing.{AreKeyTerms, IsWriteOver};
 ghost use Rattle.hk_symspec.specs.Ranges.{IsEntry, IsLong, same_numbers};
 
+use crate::fields::keys_of;
 use crate::indices::{both, limit_at};
 use crate::write::EntryWrite;
 use hk_simplify::{choose, eq};
@@ -19,15 +20,6 @@ use hk_symexpr::Limit;
 use hk_term::{TermId, Terms};
 use spec_tree::{Sort, Spec};
 use std::alloc::AllocError;
-
-// The sorts of a field's keys.
-pub(crate) fn keys_of(spec: &Spec, field: u32) -> &[Sort]
-    requires { field < length spec.now.fields }
-    ensures { map view_key result.now ≡ (slice_index_or (field_sorts (view_spec spec.now)) field no_field).keys }
-{
-    let fields = spec.fields.as_slice();
-    fields[field as usize].keys.as_slice()
-}
 
 fn term_at(index: &[TermId], k: usize) -> TermId
     requires { k < length index.now }

@@ -14,8 +14,8 @@ use Rattle.hk_symspec.proofs.EquationLaws.{field_is, field_sort}
 use Rattle.hk_symspec.proofs.ArrayLaws.{array_number}
 use Rattle.hk_symspec.proofs.bases.array_entry.Goals as goal
 
-pub place_of-place-requires : goal.place_of-place-requires
-place_of-place-requires c = subst (λ k. AreIndexTerms c.args.t.now k c.args.index.now) (sym c.keys_of.ensures) c.requires.index
+pub place_of-requires : goal.place_of-requires
+place_of-requires c = record { index = subst (λ k. AreIndexTerms c.args.t.now k c.args.index.now) (sym c.keys_of.ensures) c.requires.index }
 
 pub intern-requires : goal.intern-requires
 intern-requires c =
@@ -42,7 +42,7 @@ returns-clause-value c = λ v p found.
     let few : product (key_sizes f.keys) ≤ 2 ^ 20 = (field_is s c.args.field f c.requires.spec.fields there).sort.small in
     let same : product (key_sizes keys) ≡ product (key_sizes f.keys) = ap (λ x. product (key_sizes x.keys)) sort in
     let small : p < 2 ^ 64 = omega (arith, low, few, same) in
-    let place : value c.place_of-place.new.t c.in_ok-place.place v ≡ p =
+    let place : value c.place_of.new.t c.in_ok-place.place v ≡ p =
           c.in_ok-place.ensures.value v p (ap (λ k. place_behind 0 k (index_values c.args.t.now c.args.index.now v)) c.keys_of.ensures ∙ found) small in
     let many : length (field_sorts s) ≡ length c.args.spec.now.fields = search (rules, length-map) in
     c.in_ok-made.ensures.value v ∙ ap (λ x. v.entry (c.args.first + c.args.field) x % 2 ^ c.field_at.result.now.width) place
