@@ -1,8 +1,6 @@
 -- Entries that are those of arrays.
-use Rattle.std.proofs.Common.{◌≡◌, ◌+◌, ◌*◌, ◌%◌, ◌^◌, ◌<◌, ◌≤◌, ℕ, zero, suc, Some, List, [], ◌∷◌, length, map, drop, arith, ap, sym, ◌∙◌, subst, refl}
-use Rattle.std.specs.Prelude.{All, if◌then◌else◌, nat_lt, slice_get, slice_index, slice_index_or}
-use Rattle.std.specs.List.{range_with_len}
-use Rattle.std.proofs.lemmas.Bool.{ltb-true}
+use Rattle.std.proofs.Common.{◌≡◌, ◌+◌, ◌*◌, ◌%◌, ◌^◌, ◌<◌, ◌≤◌, ℕ, zero, suc, Some, List, [], ◌∷◌, length, drop, arith, ap, sym, ◌∙◌, refl}
+use Rattle.std.specs.Prelude.{nat_lt, slice_get, slice_index, slice_index_or}
 use Rattle.std.proofs.lemmas.List.FromFn.{length-map-range_with_len, get_or-map-range_with_len}
 use Rattle.hk_term.specs.Meaning.{Reading, value}
 use Rattle.hk_term.specs.declared.node.Node.{Node}
@@ -55,7 +53,7 @@ pub place_on : (nodes : List Node) (keys : List Key) (index : List Limit) (k : �
 place_on nodes keys index k v at next p key i a b step small found =
     let n : ℕ = value nodes i.term v in
     let opened : place_behind at (key ∷ drop (suc k) keys) (index_values nodes (i ∷ drop (suc k) index) v) ≡ Some p =
-          (λ j. place_behind at (sym (left_at keys k key a) j) (index_values nodes (sym (left_at index k i b) j) v)) ∙ found in
+    (λ j. place_behind at (sym (left_at keys k key a) j) (index_values nodes (sym (left_at index k i b) j) v)) ∙ found in
     let t = taken (nat_lt n key.size) (place_behind (at * key.size + n) (drop (suc k) keys) (index_values nodes (drop (suc k) index) v)) p opened in
     let low : at * key.size + n ≤ p = place_above (at * key.size + n) (drop (suc k) keys) (index_values nodes (drop (suc k) index) v) p t.1 in
     let one : k + 1 ≡ suc k = omega arith in

@@ -1,6 +1,6 @@
 -- The right side of a field's equation at index terms.
-use Rattle.std.proofs.Common.{◌≡◌, ◌+◌, ◌*◌, ◌^◌, ◌<◌, ◌≤◌, ℕ, zero, suc, Some, List, [], ◌∷◌, length, map, get_or, arith, ap, sym, ◌∙◌, subst, refl}
-use Rattle.std.specs.Prelude.{All, slice_get, slice_index, slice_index_or}
+use Rattle.std.proofs.Common.{◌≡◌, ◌+◌, ◌<◌, ℕ, zero, suc, Some, List, [], ◌∷◌, length, map, get_or, arith, ap, sym, ◌∙◌, subst, refl}
+use Rattle.std.specs.Prelude.{All, slice_get, slice_index_or}
 use Rattle.std.proofs.lemmas.List.{get_or-map, length-map}
 use Rattle.std.proofs.lemmas.List.Elements.{All-cons}
 use Rattle.std.proofs.lemmas.Option.{get_or_from_slice_get}
@@ -9,21 +9,21 @@ use Rattle.hk_term.specs.Meaning.{Reading}
 use Rattle.hk_term.specs.declared.node.Node.{Node}
 use Rattle.hk_symmem.specs.Guarded.{MemoryView, memory_at}
 use Rattle.spec_tree.specs.Plain.{Key, Tree, Field, Spec}
-use Rattle.spec_tree.specs.Sorted.{Context, FieldSort, IsField, IsSorted, no_field, field_sorts, key_sizes, over_kernel, over_keys, product, sort_of, with_bounds, with_local, with_locals, width_of}
+use Rattle.spec_tree.specs.Sorted.{Context, FieldSort, IsField, no_field, field_sorts, key_sizes, over_kernel, over_keys, product, sort_of, with_bounds, with_local, with_locals}
 use Rattle.spec_tree.specs.Value.{Env, value, binding, place_behind, tuple_at}
 use Rattle.spec_tree.specs.Meaning.{abstraction, entry_value, in_memory, with_value, with_values}
 use Rattle.spec_tree.specs.Shapes.{AreBelow}
 use Rattle.spec_tree.proofs.Entries.{place_within}
 use Rattle.spec_tree.proofs.Keeping.{entry_told}
-use Rattle.hk_symexpr.specs.Sources.{Source, Agrees}
+use Rattle.hk_symexpr.specs.Sources.{Agrees}
 use Rattle.hk_symexpr.specs.Scope.{Scope}
-use Rattle.hk_symexpr.specs.Naming.{AreIndexTerms, AreLimited, AreSteady, AreNames, IsNamed, IsRead, Suits, bounds_at, context_of, index_values, name_values}
+use Rattle.hk_symexpr.specs.Naming.{AreIndexTerms, AreLimited, AreSteady, AreNames, Suits, bounds_at, context_of, index_values, name_values}
 use Rattle.hk_symexpr.specs.declared.names.NamedTerm.{NamedTerm}
 use Rattle.hk_symexpr.specs.declared.names.Limit.{Limit}
 use Rattle.hk_symspec.specs.Standing.{IsEquated, IsSteadyMemory, entry_base}
 use Rattle.hk_symspec.specs.Ranges.{IsEntry}
 use Rattle.hk_symspec.proofs.Turning.{mapped_at}
-use Rattle.hk_symspec.proofs.NameLaws.{agrees_then, agrees_self}
+use Rattle.hk_symspec.proofs.NameLaws.{agrees_then}
 use Rattle.hk_symspec.proofs.IndexLaws.{index_length}
 use Rattle.hk_symspec.proofs.PlaceLaws.{below_sizes, tuple_there}
 
@@ -61,11 +61,11 @@ field_is s field f all found = subst (IsField s) (get_or_from_slice_get s.fields
 pub equation_names : (s : Spec) (nodes : List Node) (m : MemoryView) (locals : List NamedTerm) (fkeys : List Key) (index : List Limit) (keys sizes : List ℕ)
     → IsEquated s nodes m locals → AreIndexTerms nodes fkeys index → keys ≡ map (λ i. i.term) index → AreNames nodes (equation_scope locals index keys sizes)
 equation_names s nodes m locals fkeys index keys sizes over at is = record {
-    args = λ k d l. absurd (omega (arith, l));
-    locals = over.named;
-    keys = subst (All (λ k. k < length nodes)) (sym is) (terms fkeys index at);
-    known = limits fkeys index at;
-  }
+  args = λ k d l. absurd (omega (arith, l));
+  locals = over.named;
+  keys = subst (All (λ k. k < length nodes)) (sym is) (terms fkeys index at);
+  known = limits fkeys index at;
+}
   where
     terms : (ks : List Key) (is : List Limit) → AreIndexTerms nodes ks is → All (λ k. k < length nodes) (map (λ i. i.term) is)
     terms [] is h = λ k d l. let e : length (map (λ (i : Limit). i.term) is) ≡ 0 = ap (λ x. length (map (λ (i : Limit). i.term) x)) h in absurd (omega (arith, l, e))
@@ -99,16 +99,16 @@ pub equation_suits : (s : Spec) (nodes : List Node) (m : MemoryView) (locals : L
     → AreLimited nodes index v → AreSteady entry_base nodes index v → IsSteadyMemory entry_base nodes (Some m) v
     → place_behind 0 fkeys (index_values nodes index v) ≡ Some p
     → Suits (λ u. record { old = []; new = []; memory = memory_at nodes m u }) (context_of (over_kernel s) (equation_scope locals index keys sizes)) nodes (equation_scope locals index keys sizes) v
-        (equation_env nodes m locals index v)
+    (equation_env nodes m locals index v)
 equation_suits s nodes m locals fkeys index keys sizes v p over at ke se limited steady still found u a = record {
-    read = λ i. record { old = []; new = []; memory = still u b i };
-    memory = λ _. over.kernel.whole v;
-    args = refl;
-    locals = over.values v still ∙ ap (λ x. (with_values (over_kernel s) (in_memory x) s.equation_locals).locals) (sym (still u b)) ∙ sym (over.values u (λ w d. still w (agrees_then entry_base v u w b d) ∙ sym (still u b)));
-    bounds = sym (steady u b) ∙ sym (bounds_are nodes fkeys index entry_base u at) ∙ (λ i. bounds_at nodes (sym ke i) entry_base (sym se i) u);
-    below = subst (λ x. AreBelow x (index_values nodes index v)) (sym se) (below_sizes 0 fkeys (index_values nodes index v) p (length-map index (λ i. term.value nodes i.term v) ∙ index_length nodes fkeys index at) found);
-    known = limits_rest nodes index v u (steady u b) limited;
-  }
+  read = λ i. record { old = []; new = []; memory = still u b i };
+  memory = λ _. over.kernel.whole v;
+  args = refl;
+  locals = over.values v still ∙ ap (λ x. (with_values (over_kernel s) (in_memory x) s.equation_locals).locals) (sym (still u b)) ∙ sym (over.values u (λ w d. still w (agrees_then entry_base v u w b d) ∙ sym (still u b)));
+  bounds = sym (steady u b) ∙ sym (bounds_are nodes fkeys index entry_base u at) ∙ (λ i. bounds_at nodes (sym ke i) entry_base (sym se i) u);
+  below = subst (λ x. AreBelow x (index_values nodes index v)) (sym se) (below_sizes 0 fkeys (index_values nodes index v) p (length-map index (λ i. term.value nodes i.term v) ∙ index_length nodes fkeys index at) found);
+  known = limits_rest nodes index v u (steady u b) limited;
+}
   where
     b : Agrees entry_base v u
     b = record { entry = a.entry; var = λ id l. a.var id (omega (arith, l)) }
@@ -119,7 +119,7 @@ pub equation_value : (s : Spec) (nodes : List Node) (m : MemoryView) (locals : L
     → keys ≡ map (λ i. i.term) index → sizes ≡ key_sizes (slice_index_or (field_sorts s) field no_field).keys
     → AreLimited nodes index v → AreSteady entry_base nodes index v → IsSteadyMemory entry_base nodes (Some m) v
     → ((env : Env) → Suits (λ u. record { old = []; new = []; memory = memory_at nodes m u }) (context_of (over_kernel s) (equation_scope locals index keys sizes)) nodes (equation_scope locals index keys sizes) v env
-        → n ≡ value (context_of (over_kernel s) (equation_scope locals index keys sizes)) env f.value)
+    → n ≡ value (context_of (over_kernel s) (equation_scope locals index keys sizes)) env f.value)
     → IsEntry (field_sorts s) field (index_values nodes index v) (abstraction s (memory_at nodes m v)) n
 equation_value s nodes m locals field f index keys sizes v n over there at ke se limited steady still is p found =
     is (equation_env nodes m locals index v) (equation_suits s nodes m locals f.keys index keys sizes v p over at' ke se' limited steady still found')

@@ -1,8 +1,7 @@
 -- States that are those of arrays.
-use Rattle.std.proofs.Common.{◌≡◌, ◌+◌, ◌-◌, ◌%◌, ◌^◌, ◌<◌, ◌≤◌, ℕ, zero, suc, List, [], ◌∷◌, length, map, get_or, arith, ap, sym, ◌∙◌, refl}
+use Rattle.std.proofs.Common.{◌≡◌, ◌+◌, ◌-◌, ◌%◌, ◌^◌, ◌<◌, ℕ, suc, List, [], ◌∷◌, length, get_or, arith, ap, sym, ◌∙◌, refl}
 use Rattle.std.specs.Prelude.{All, slice_index, slice_index_or}
-use Rattle.std.specs.List.{range_with_len}
-use Rattle.std.proofs.Math.Nat.{mod-eq_of_lt, mod-lt}
+use Rattle.std.proofs.Math.Nat.{mod-eq_of_lt}
 use Rattle.std.proofs.lemmas.List.{ext_get_or}
 use Rattle.std.proofs.lemmas.List.FromFn.{length-map-range_with_len, get_or-map-range_with_len}
 use Rattle.spec_tree.specs.Sorted.{FieldSort, key_sizes, product}
@@ -55,7 +54,7 @@ pub these_alone : (fields : List FieldSort) (first : ℕ) (d e : ℕ → ℕ →
 these_alone [] first d e same = refl
 these_alone (f ∷ fs) first d e same =
     λ i. row_alone f (d first) (e first) (λ j. ap (λ n. d n j) none ∙ same 0 j (omega arith) ∙ ap (λ n. e n j) (sym none)) i
-       ∷ these_alone fs (first + 1) d e (λ k j l. ap (λ n. d n j) (next k) ∙ same (suc k) j (omega (arith, l)) ∙ ap (λ n. e n j) (sym (next k))) i
+    ∷ these_alone fs (first + 1) d e (λ k j l. ap (λ n. d n j) (next k) ∙ same (suc k) j (omega (arith, l)) ∙ ap (λ n. e n j) (sym (next k))) i
   where
     none : first ≡ first + 0
     none = omega arith

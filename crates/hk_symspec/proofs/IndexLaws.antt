@@ -1,6 +1,6 @@
 -- Index tuples as terms.
-use Rattle.std.proofs.Common.{◌≡◌, ℕ, zero, suc, ◌+◌, ◌-◌, ◌^◌, ◌<◌, ◌≤◌, Bool, true, false, ◌&&◌, Some, List, [], ◌∷◌, length, map, drop, refl, sym, ◌∙◌, ap, subst, arith, add-one}
-use Rattle.std.specs.Prelude.{All, slice_get, nat_lt, bit_and}
+use Rattle.std.proofs.Common.{◌≡◌, ℕ, zero, suc, ◌+◌, ◌<◌, ◌≤◌, Bool, true, false, ◌&&◌, Some, List, [], ◌∷◌, length, drop, refl, sym, ◌∙◌, ap, subst, arith, add-one}
+use Rattle.std.specs.Prelude.{slice_get, nat_lt, bit_and}
 use Rattle.std.proofs.lemmas.Bool.{lt-ltb}
 use Rattle.hk_term.specs.Operations.{bit}
 use Rattle.hk_term.specs.Shape.{width}
@@ -69,12 +69,12 @@ pub tests_on : (nodes : List Node) (keys : List Key) (index : List Limit) (k : �
     → ((p q : Bool) → n ≡ bit p → bit (nat_lt (value nodes i.term v) key.size) ≡ bit q → m ≡ bit (p && q))
     → Tests nodes keys index k v n → Tests nodes keys index (k + 1) v m
 tests_on nodes keys index k v n m key i a b step t = record {
-    so = t.so && nat_lt (value nodes i.term v) key.size;
-    is = step t.so (nat_lt (value nodes i.term v) key.size) t.is refl;
-    left = ap (λ q. (t.so && nat_lt (value nodes i.term v) key.size) && in_range (drop q keys) (index_values nodes (drop q index) v)) (add-one k)
-        ∙ and_assoc t.so (nat_lt (value nodes i.term v) key.size) (in_range (drop (suc k) keys) (index_values nodes (drop (suc k) index) v))
-        ∙ ap (λ r. t.so && r) (sym next) ∙ t.left;
-  }
+  so = t.so && nat_lt (value nodes i.term v) key.size;
+  is = step t.so (nat_lt (value nodes i.term v) key.size) t.is refl;
+  left = ap (λ q. (t.so && nat_lt (value nodes i.term v) key.size) && in_range (drop q keys) (index_values nodes (drop q index) v)) (add-one k)
+      ∙ and_assoc t.so (nat_lt (value nodes i.term v) key.size) (in_range (drop (suc k) keys) (index_values nodes (drop (suc k) index) v))
+      ∙ ap (λ r. t.so && r) (sym next) ∙ t.left;
+}
   where
     next : in_range (drop k keys) (index_values nodes (drop k index) v) ≡ (nat_lt (value nodes i.term v) key.size && in_range (drop (suc k) keys) (index_values nodes (drop (suc k) index) v))
     next = ap (λ l. in_range l (index_values nodes (drop k index) v)) (left_at keys k key a) ∙ ap (λ l. in_range (key ∷ drop (suc k) keys) (index_values nodes l v)) (left_at index k i b)

@@ -1,8 +1,7 @@
 -- A local name more, and what is read then.
-use Rattle.std.proofs.Common.{◌≡◌, ℕ, zero, suc, ◌+◌, ◌^◌, ◌<◌, ◌≤◌, List, [], ◌∷◌, ◌++◌, length, map, drop, drop-cons, add-one, refl, sym, ◌∙◌, ap, subst, arith, get_or}
+use Rattle.std.proofs.Common.{◌≡◌, ℕ, zero, suc, ◌+◌, ◌^◌, ◌<◌, ◌≤◌, List, [], ◌∷◌, ◌++◌, length, drop, drop-cons, add-one, refl, sym, ◌∙◌, ap, subst, arith, get_or}
 use Rattle.std.specs.Prelude.{All, Some}
 use Rattle.std.proofs.lemmas.List.{map-append}
-use Rattle.hk_term.specs.Shape.{width}
 use Rattle.hk_term.specs.Meaning as term
 use Rattle.hk_term.specs.Meaning.{Reading}
 use Rattle.hk_term.specs.declared.node.Node.{Node}
@@ -12,7 +11,7 @@ use Rattle.spec_tree.specs.Sorted.{Context, AreLocals, IsFieldSort, IsSorted, ov
 use Rattle.spec_tree.specs.Value.{Env, value, bit, holds}
 use Rattle.spec_tree.specs.Meaning.{in_memory, with_value, with_values}
 use Rattle.hk_symexpr.specs.Sources.{Source, Agrees}
-use Rattle.hk_symexpr.specs.Naming.{IsNamed, IsRead, name_values}
+use Rattle.hk_symexpr.specs.Naming.{IsNamed, IsRead}
 use Rattle.hk_symexpr.specs.declared.names.NamedTerm.{NamedTerm}
 use Rattle.hk_symspec.specs.Standing.{IsKernelOver, IsSteadyMemory}
 use Rattle.hk_symspec.specs.KeptLaws.{names_kept}
@@ -33,14 +32,14 @@ pub reads_more : (source source' : Reading → Source) (c : Context) (old new : 
     → (v : Reading) (env : Env) → Reads source c old args locals base v env
     → Reads source' c new args (locals ++ n ∷ []) base v (with_value (formula_context c args locals base) env e)
 reads_more source source' c old new args locals base e n keeps same named locals_named is v env s u a = record {
-    read = same u ∙ r.read;
-    memory = r.memory;
-    args = r.args ∙ sym (names_kept old new args u keeps named);
-    locals = (λ i. (r.locals ∙ sym (names_kept old new locals u keeps locals_named)) i ++ sym number i ∷ []) ∙ sym (map-append (λ l. term.value new l.term u) locals (n ∷ []));
-    bounds = r.bounds;
-    below = r.below;
-    known = λ k d l. absurd (omega (arith, l));
-  }
+  read = same u ∙ r.read;
+  memory = r.memory;
+  args = r.args ∙ sym (names_kept old new args u keeps named);
+  locals = (λ i. (r.locals ∙ sym (names_kept old new locals u keeps locals_named)) i ++ sym number i ∷ []) ∙ sym (map-append (λ l. term.value new l.term u) locals (n ∷ []));
+  bounds = r.bounds;
+  below = r.below;
+  known = λ k d l. absurd (omega (arith, l));
+}
   where
     r : IsRead source (formula_context c args locals base) old (formula_scope args locals base) u env
     r = s u a
@@ -73,11 +72,11 @@ pub leads_on : (source source' : Reading → Source) (c : Context) (old new : Li
     → ((v : Reading) (env : Env) → Reads source c old args locals base v env → Reads source' c new args locals' base v (with_value (formula_context c args locals base) env e))
     → (v : Reading) (last : Env) → Leads source c old args locals base left v last → Leads source' c new args locals' base rest v last
 leads_on source source' c old new args locals locals' base e left rest is context step v last l = record {
-    now = with_value (formula_context c args locals base) l.now e;
-    reads = step v l.now l.reads;
-    ends = ap (λ x. with_values x (with_value (formula_context c args locals base) l.now e) rest) context
-        ∙ ap (with_values (formula_context c args locals base) l.now) (sym is) ∙ l.ends;
-  }
+  now = with_value (formula_context c args locals base) l.now e;
+  reads = step v l.now l.reads;
+  ends = ap (λ x. with_values x (with_value (formula_context c args locals base) l.now e) rest) context
+      ∙ ap (with_values (formula_context c args locals base) l.now) (sym is) ∙ l.ends;
+}
 
 pub drop_end : {X : Type 0} (items : List X) (k : ℕ) → length items ≤ k → drop k items ≡ []
 drop_end [] zero l = refl
@@ -94,14 +93,14 @@ led source c nodes args locals base left v last is l =
 pub kernel_reads : (s : Spec) (nodes : List Node) (m : MemoryView) (base : ℕ) (v : Reading) → IsKernelOver s nodes m → IsSteadyMemory base nodes (Some m) v
     → Reads (λ u. record { old = []; new = []; memory = memory_at nodes m u }) (over_kernel s) nodes [] [] base v (in_memory (memory_at nodes m v))
 kernel_reads s nodes m base v over steady u a = record {
-    read = λ i. record { old = []; new = []; memory = steady u (record { entry = a.entry; var = λ id l. a.var id (omega (arith, l)) }) i };
-    memory = λ _. over.whole v;
-    args = refl;
-    locals = refl;
-    bounds = refl;
-    below = refl;
-    known = λ k d l. absurd (omega (arith, l));
-  }
+  read = λ i. record { old = []; new = []; memory = steady u (record { entry = a.entry; var = λ id l. a.var id (omega (arith, l)) }) i };
+  memory = λ _. over.whole v;
+  args = refl;
+  locals = refl;
+  bounds = refl;
+  below = refl;
+  known = λ k d l. absurd (omega (arith, l));
+}
 
 -- a number of one bit is a truth
 pub bit_of : (n : ℕ) → n < 2 → n ≡ bit (holds n)
@@ -112,11 +111,11 @@ bit_of (suc (suc n)) l = absurd (omega (arith, l))
 pub begun_formula : (c : Context) (limit : ℕ) (nodes : List Node) (base : ℕ) → base ≤ limit → All IsFieldSort c.fields → All (λ n. n < 2 ^ 64) c.objects
     → IsFormula c limit nodes [] [] base
 begun_formula c limit nodes base ids fields objects = record {
-    names = record { args = λ k d l. absurd (omega (arith, l)); locals = λ k d l. absurd (omega (arith, l)); keys = λ k d l. absurd (omega (arith, l)); known = λ k d l. absurd (omega (arith, l)) };
-    ids = ids;
-    fields = fields;
-    objects = objects;
-  }
+  names = record { args = λ k d l. absurd (omega (arith, l)); locals = λ k d l. absurd (omega (arith, l)); keys = λ k d l. absurd (omega (arith, l)); known = λ k d l. absurd (omega (arith, l)) };
+  ids = ids;
+  fields = fields;
+  objects = objects;
+}
 
 -- the number of a truth behind its local names
 pub body_value : (source source' : Reading → Source) (c : Context) (old middle new : List Node) (base : ℕ) (none put listed : List NamedTerm) (es : List Tree) (e : Tree) (r : ℕ)
@@ -135,8 +134,8 @@ body_value source source' c old middle new base none put listed es e r empty sam
 
     now : Reads source' c middle [] listed base v behind
     now = let P : List NamedTerm → Type 0 = λ l. Reads source' c middle [] l base v behind in
-          let Q : List NamedTerm → Type 0 = λ l. Reads source c old [] l base v env in
-          subst P (sym same) (reads v env (subst Q (sym empty) s))
+        let Q : List NamedTerm → Type 0 = λ l. Reads source c old [] l base v env in
+        subst P (sym same) (reads v env (subst Q (sym empty) s))
 
     told : value (formula_context c [] listed base) behind e ≡ value (with_locals (formula_context c [] [] base) es) (with_values (formula_context c [] [] base) env es) e
     told = ap (λ l. value (formula_context c [] l base) behind e) same ∙ ap (λ x. value x behind e) context

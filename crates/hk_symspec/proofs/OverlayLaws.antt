@@ -1,12 +1,12 @@
 -- Entries behind writes, in a list of terms that grows.
 use Rattle.std.proofs.Common.{◌≡◌, ◌≢◌, ◌+◌, ◌<◌, ◌≤◌, ℕ, zero, suc, Bool, true, false, ◌&&◌, Option, Some, List, [], ◌∷◌, length, map, drop, arith, ap, sym, ◌∙◌, subst, refl, add-one}
-use Rattle.std.specs.Prelude.{All, if◌then◌else◌, nat_eq, slice_get, slice_index, slice_index_or}
+use Rattle.std.specs.Prelude.{if◌then◌else◌, nat_eq, slice_get, slice_index, slice_index_or}
 use Rattle.hk_term.specs.Operations.{bit}
 use Rattle.hk_term.specs.Shape.{width}
 use Rattle.hk_term.specs.Meaning.{Reading, value}
 use Rattle.hk_term.specs.declared.node.Node.{Node}
 use Rattle.spec_tree.specs.Plain.{Key}
-use Rattle.spec_tree.specs.Sorted.{FieldSort, no_field, product, key_sizes}
+use Rattle.spec_tree.specs.Sorted.{FieldSort, no_field}
 use Rattle.spec_tree.specs.Value.{place_behind}
 use Rattle.spec_tree.specs.Meaning.{State, entry_set}
 use Rattle.spec_tree.proofs.Entries.{place_within}
@@ -16,7 +16,7 @@ use Rattle.hk_symspec.specs.declared.write.EntryWrite.{EntryWrite}
 use Rattle.hk_symspec.specs.States.{after_write, after_writes, numbers_at}
 use Rattle.hk_symspec.specs.Standing.{AreKeyTerms, IsWriteOver}
 use Rattle.hk_symspec.specs.Ranges.{IsEntry, IsLong, same_numbers}
-use Rattle.hk_symspec.specs.KeptLaws.{KeepsValues, after_write_kept, after_writes_kept}
+use Rattle.hk_symspec.specs.KeptLaws.{KeepsValues, after_write_kept}
 use Rattle.hk_symspec.proofs.Turning.{left_at, none_left}
 use Rattle.hk_symspec.proofs.IndexLaws.{index_length}
 use Rattle.hk_symspec.proofs.WriteLaws.{entry_behind, other_field, write_long}
@@ -120,16 +120,16 @@ pub overlaid_on : (fields : List FieldSort) (first old : List Node) (v : Reading
     → ((state : State) → IsLong fields state → IsEntry fields field (index_values old index v) state n → IsEntry fields field (index_values old index v) (after_write fields old v w state) m)
     → Overlaid fields first v field (index_values first index v) left n last → Overlaid fields first v field (index_values first index v) rest m last
 overlaid_on fields first old v field keys index left rest w n m last is keeps over at step o = record {
-    now = after_write fields first v w o.now;
-    long = after_long fields first v w o.now o.long;
-    entry =
-        let same : index_values old index v ≡ index_values first index v = indices_kept first old keys index v keeps at in
-        let P : List ℕ → Type 0 = λ x. IsEntry fields field x (after_write fields old v w o.now) m in
-        let Q : List ℕ → Type 0 = λ x. IsEntry fields field x o.now n in
-        let S : State → Type 0 = λ x. IsEntry fields field (index_values first index v) x m in
-        subst S (after_write_kept fields first old v w o.now keeps over) (subst P same (step o.now o.long (subst Q (sym same) o.entry)));
-    ends = ap (λ l. after_writes fields first v l o.now) (sym is) ∙ o.ends;
-  }
+  now = after_write fields first v w o.now;
+  long = after_long fields first v w o.now o.long;
+  entry =
+      let same : index_values old index v ≡ index_values first index v = indices_kept first old keys index v keeps at in
+      let P : List ℕ → Type 0 = λ x. IsEntry fields field x (after_write fields old v w o.now) m in
+      let Q : List ℕ → Type 0 = λ x. IsEntry fields field x o.now n in
+      let S : State → Type 0 = λ x. IsEntry fields field (index_values first index v) x m in
+      subst S (after_write_kept fields first old v w o.now keeps over) (subst P same (step o.now o.long (subst Q (sym same) o.entry)));
+  ends = ap (λ l. after_writes fields first v l o.now) (sym is) ∙ o.ends;
+}
 
 pub overlaid_end : (fields : List FieldSort) (nodes : List Node) (v : Reading) (field : ℕ) (is : List ℕ) (left : List EntryWrite) (n : ℕ) (last : State)
     → left ≡ [] → Overlaid fields nodes v field is left n last → IsEntry fields field is last n
@@ -160,12 +160,12 @@ pub matches_on : (nodes : List Node) (index : List ℕ) (other : List Limit) (k 
     → ((a b : Bool) → n ≡ bit a → bit (nat_eq (value nodes i v) (value nodes j.term v)) ≡ bit b → m ≡ bit (a && b))
     → Matches nodes index other k v p n → Matches nodes index other (k + 1) v p m
 matches_on nodes index other k v p n m i j a b step t = record {
-    so = t.so && nat_eq (value nodes i v) (value nodes j.term v);
-    is = step t.so (nat_eq (value nodes i v) (value nodes j.term v)) t.is refl;
-    left = ap (λ q. (t.so && nat_eq (value nodes i v) (value nodes j.term v)) && same_numbers (numbers_at nodes (drop q index) v) (index_values nodes (drop q other) v)) (add-one k)
-        ∙ and_assoc t.so (nat_eq (value nodes i v) (value nodes j.term v)) (same_numbers (numbers_at nodes (drop (suc k) index) v) (index_values nodes (drop (suc k) other) v))
-        ∙ ap (λ r. t.so && r) (sym next) ∙ t.left;
-  }
+  so = t.so && nat_eq (value nodes i v) (value nodes j.term v);
+  is = step t.so (nat_eq (value nodes i v) (value nodes j.term v)) t.is refl;
+  left = ap (λ q. (t.so && nat_eq (value nodes i v) (value nodes j.term v)) && same_numbers (numbers_at nodes (drop q index) v) (index_values nodes (drop q other) v)) (add-one k)
+      ∙ and_assoc t.so (nat_eq (value nodes i v) (value nodes j.term v)) (same_numbers (numbers_at nodes (drop (suc k) index) v) (index_values nodes (drop (suc k) other) v))
+      ∙ ap (λ r. t.so && r) (sym next) ∙ t.left;
+}
   where
     next : same_numbers (numbers_at nodes (drop k index) v) (index_values nodes (drop k other) v)
         ≡ (nat_eq (value nodes i v) (value nodes j.term v) && same_numbers (numbers_at nodes (drop (suc k) index) v) (index_values nodes (drop (suc k) other) v))

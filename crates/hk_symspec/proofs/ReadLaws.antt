@@ -1,5 +1,5 @@
 -- Reads of states.
-use Rattle.std.proofs.Common.{◌≡◌, ◌<◌, ◌≤◌, ◌^◌, ℕ, Bool, true, false, Option, Some, None, List, [], ◌∷◌, length, map, get_or, arith, ap, sym, ◌∙◌, subst, refl}
+use Rattle.std.proofs.Common.{◌≡◌, ℕ, Bool, true, false, Option, Some, None, List, [], get_or, arith, ap, sym, ◌∙◌, subst, refl}
 use Rattle.std.specs.Prelude.{All, if◌then◌else◌, nat_eq, slice_index, slice_index_or}
 use Rattle.std.proofs.lemmas.List.{get_or-map}
 use Rattle.hk_term.specs.Operations.{bit}
@@ -19,7 +19,7 @@ use Rattle.hk_symspec.specs.States.{after_writes, base_at}
 use Rattle.hk_symspec.specs.Standing.{IsBaseOver, IsWriteOver}
 use Rattle.hk_symspec.specs.Ranges.{IsEntry, IsLong, in_range}
 use Rattle.hk_symspec.specs.KeptLaws.{KeepsValues, after_writes_kept}
-use Rattle.hk_symspec.proofs.PlaceLaws.{Placed, placed, no_place}
+use Rattle.hk_symspec.proofs.PlaceLaws.{placed, no_place}
 use Rattle.hk_symspec.proofs.OverlayLaws.{indices_kept, writes_long}
 use Rattle.hk_symspec.proofs.ArrayLaws.{free_long, state_long}
 
@@ -59,7 +59,7 @@ pub read_value : (fields : List FieldSort) (t0 t1 t2 t3 : List Node) (v : Readin
     → ((st : State) → IsLong fields st → IsEntry fields field (index_values t1 index v) st n1 → IsEntry fields field (index_values t1 index v) (after_writes fields t1 v ws st) n2)
     → ((st : State) → IsLong fields st → IsEntry fields field (index_values t2 index v) st n2 → IsEntry fields field (index_values t2 index v) (after_writes fields t2 v later st) n3)
     → ((st : State) → IsEntry fields field (index_values t3 index v) st n3
-        → n4 ≡ entry_at (slice_index_or st field []) (place_behind 0 (slice_index_or fields field no_field).keys (index_values t3 index v)))
+    → n4 ≡ entry_at (slice_index_or st field []) (place_behind 0 (slice_index_or fields field no_field).keys (index_values t3 index v)))
     → n4 ≡ entry_at (slice_index_or (after_writes fields t0 v later (after_writes fields t0 v ws base)) field []) (place_behind 0 (slice_index_or fields field no_field).keys (index_values t0 index v))
 read_value fields t0 t1 t2 t3 v field index ws later base n1 n2 n3 n4 k1 k2 k3 at over over' long first second third fourth =
     fourth last (P last n3 (sym e3) third') ∙ ap (λ is. entry_at (slice_index_or last field []) (place_behind 0 keys is)) e3

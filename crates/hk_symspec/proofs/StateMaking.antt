@@ -1,8 +1,7 @@
 -- States that are made.
-use Rattle.std.proofs.Common.{◌≡◌, ◌<◌, ◌≤◌, ◌+◌, ◌^◌, ℕ, Option, Some, None, List, [], ◌∷◌, length, map, arith, ap, sym, ◌∙◌, subst, refl}
+use Rattle.std.proofs.Common.{◌≡◌, ◌<◌, ◌≤◌, ◌+◌, ◌^◌, ℕ, Some, None, List, [], ◌∷◌, length, map, arith, ap, sym, ◌∙◌, subst, refl}
 use Rattle.std.specs.Prelude.{All}
 use Rattle.std.proofs.lemmas.List.Elements.{All-cons}
-use Rattle.hk_term.specs.Shape.{width}
 use Rattle.hk_term.specs.Meaning.{Reading, value}
 use Rattle.hk_term.specs.declared.node.Node.{Node}
 use Rattle.hk_symmem.specs.Guarded.{MemoryView, memory_at}
@@ -10,11 +9,10 @@ use Rattle.spec_tree.specs.Plain.{Key, Spec}
 use Rattle.spec_tree.specs.Sorted.{field_sorts, over_kernel, with_locals}
 use Rattle.spec_tree.specs.Value.{Env}
 use Rattle.spec_tree.specs.Meaning.{abstraction, in_memory, with_values}
-use Rattle.hk_symexpr.specs.Sources.{Agrees}
-use Rattle.hk_symexpr.specs.Naming.{AreIndexTerms, AreLimited, AreSteady, IsRead, index_values, name_values}
+use Rattle.hk_symexpr.specs.Naming.{AreIndexTerms, IsRead, index_values}
 use Rattle.hk_symexpr.specs.declared.names.NamedTerm.{NamedTerm}
 use Rattle.hk_symexpr.specs.declared.names.Limit.{Limit}
-use Rattle.hk_symspec.specs.States.{StateView, free_state, numbers_at, state_at}
+use Rattle.hk_symspec.specs.States.{free_state, numbers_at}
 use Rattle.hk_symspec.specs.Standing.{AreKeyTerms, IsEquated, IsKernelOver, IsStateOver, IsSteady, IsSteadyMemory, entry_base}
 use Rattle.hk_symspec.specs.Formulas.{IsFormula, Reads, formula_context, formula_scope}
 use Rattle.hk_symspec.proofs.NameLaws.{agrees_self, kernel_reads}
@@ -25,25 +23,25 @@ pub equated_made : (s : Spec) (old new : List Node) (m : MemoryView) (none local
     → IsFormula (over_kernel s) limit new [] locals entry_base
     → formula_context (over_kernel s) [] locals entry_base ≡ with_locals (formula_context (over_kernel s) [] none entry_base) s.equation_locals
     → ((v : Reading) (env : Env) → Reads (λ u. record { old = []; new = []; memory = memory_at old m u }) (over_kernel s) old [] none entry_base v env
-        → Reads (λ u. record { old = []; new = []; memory = memory_at new m u }) (over_kernel s) new [] locals entry_base v (with_values (formula_context (over_kernel s) [] none entry_base) env s.equation_locals))
+    → Reads (λ u. record { old = []; new = []; memory = memory_at new m u }) (over_kernel s) new [] locals entry_base v (with_values (formula_context (over_kernel s) [] none entry_base) env s.equation_locals))
     → IsEquated s new m locals
 equated_made s old new m none locals limit empty before over same formula context reads = record {
-    kernel = over;
-    named = formula.names.locals;
-    widths = ap (λ c. c.locals) context ∙ ap (λ l. (with_locals (formula_context (over_kernel s) [] l entry_base) s.equation_locals).locals) empty;
-    values = λ v still. sym (now v still).locals
-        ∙ ap (λ l. (with_values (formula_context (over_kernel s) [] l entry_base) (in_memory (memory_at old m v)) s.equation_locals).locals) empty
-        ∙ ap (λ x. (with_values (over_kernel s) (in_memory x) s.equation_locals).locals) (sym (same v));
-  }
+  kernel = over;
+  named = formula.names.locals;
+  widths = ap (λ c. c.locals) context ∙ ap (λ l. (with_locals (formula_context (over_kernel s) [] l entry_base) s.equation_locals).locals) empty;
+  values = λ v still. sym (now v still).locals
+      ∙ ap (λ l. (with_values (formula_context (over_kernel s) [] l entry_base) (in_memory (memory_at old m v)) s.equation_locals).locals) empty
+      ∙ ap (λ x. (with_values (over_kernel s) (in_memory x) s.equation_locals).locals) (sym (same v));
+}
   where
     now : (v : Reading) → IsSteadyMemory entry_base new (Some m) v
         → IsRead (λ u. record { old = []; new = []; memory = memory_at new m u }) (formula_context (over_kernel s) [] locals entry_base) new (formula_scope [] locals entry_base) v
-            (with_values (formula_context (over_kernel s) [] none entry_base) (in_memory (memory_at old m v)) s.equation_locals)
+        (with_values (formula_context (over_kernel s) [] none entry_base) (in_memory (memory_at old m v)) s.equation_locals)
     now v still =
         let P : List NamedTerm → Type 0 = λ l. Reads (λ u. record { old = []; new = []; memory = memory_at old m u }) (over_kernel s) old [] l entry_base v (in_memory (memory_at old m v)) in
         reads v (in_memory (memory_at old m v))
-          (subst P (sym empty) (kernel_reads s old m entry_base v before (λ u a. sym (same u) ∙ still u a ∙ same v)))
-          v (agrees_self (entry_base + 0) v)
+        (subst P (sym empty) (kernel_reads s old m entry_base v before (λ u a. sym (same u) ∙ still u a ∙ same v)))
+        v (agrees_self (entry_base + 0) v)
 
 pub none_over : (s : Spec) (nodes : List Node) (locals : List NamedTerm) (first : ℕ) → first + length s.fields ≤ 2 ^ 32
     → IsStateOver s nodes (record { memory = None; locals = locals; first = first; writes = [] })
@@ -61,9 +59,9 @@ pub some_steady : (s : Spec) (limit : ℕ) (old new : List Node) (m : MemoryView
     → ((v : Reading) → memory_at new m v ≡ memory_at old m v) → IsSteadyMemory limit old (Some m) v
     → IsSteady limit s new (record { memory = Some m; locals = locals; first = first; writes = [] }) v
 some_steady s limit old new m locals first v same still = record {
-    memory = λ u a. same u ∙ still u a ∙ sym (same v);
-    state = λ u a. ap (abstraction s) (same u ∙ still u a ∙ sym (same v));
-  }
+  memory = λ u a. same u ∙ still u a ∙ sym (same v);
+  state = λ u a. ap (abstraction s) (same u ∙ still u a ∙ sym (same v));
+}
 
 -- ---- index terms with their limits
 

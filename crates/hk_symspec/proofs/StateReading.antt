@@ -1,11 +1,10 @@
 -- What formulas over states read.
-use Rattle.std.proofs.Common.{◌≡◌, ◌+◌, ◌<◌, ◌≤◌, ℕ, Bool, true, false, Some, List, [], ◌∷◌, refl, sym, ◌∙◌, ap, arith}
-use Rattle.std.specs.Prelude.{if◌then◌else◌}
+use Rattle.std.proofs.Common.{◌≡◌, ℕ, true, false, List, [], ◌∷◌, refl, ◌∙◌, ap, arith}
 use Rattle.hk_term.specs.Meaning.{Reading}
 use Rattle.hk_term.specs.declared.node.Node.{Node}
 use Rattle.spec_tree.specs.Plain.{Tree, Named, Spec}
 use Rattle.spec_tree.specs.Sorted.{Context, IsNamed, over_state, with_locals, with_local}
-use Rattle.spec_tree.specs.Value.{Env, bit, holds, value}
+use Rattle.spec_tree.specs.Value.{bit, holds, value}
 use Rattle.spec_tree.specs.Meaning.{Memory, State, in_state, property_holds, with_values}
 use Rattle.hk_symexpr.specs.Sources.{Agrees}
 use Rattle.hk_symspec.specs.States.{StateView, kernel_at, state_at}
@@ -20,16 +19,16 @@ kernel_stays c (e ∷ es) = kernel_stays (with_local c e) es
 -- a property reads the state as the old one, and no other
 pub property_reads : (s : Spec) (nodes : List Node) (a : StateView) (base : ℕ) (v : Reading) → IsSteady base s nodes a v
     → Reads (λ u. record { old = state_at s nodes a u; new = []; memory = kernel_at nodes a.memory u }) (over_state s) nodes [] [] base v
-        (over_memory (in_state (state_at s nodes a v)) (kernel_at nodes a.memory v))
+    (over_memory (in_state (state_at s nodes a v)) (kernel_at nodes a.memory v))
 property_reads s nodes a base v steady u g = record {
-    read = λ i. record { old = steady.state u b i; new = []; memory = steady.memory u b i };
-    memory = λ e. absurd (no_kernel e);
-    args = refl;
-    locals = refl;
-    bounds = refl;
-    below = refl;
-    known = λ k d l. absurd (omega (arith, l));
-  }
+  read = λ i. record { old = steady.state u b i; new = []; memory = steady.memory u b i };
+  memory = λ e. absurd (no_kernel e);
+  args = refl;
+  locals = refl;
+  bounds = refl;
+  below = refl;
+  known = λ k d l. absurd (omega (arith, l));
+}
   where
     b : Agrees base v u
     b = record { entry = g.entry; var = λ id l. g.var id (omega (arith, l)) }

@@ -1,9 +1,8 @@
 -- What a state has behind a write.
-use Rattle.std.proofs.Common.{◌≡◌, ◌≢◌, ◌<◌, ◌≤◌, ◌⊎◌, ℕ, zero, suc, Bool, true, false, ◌&&◌, Option, Some, None, List, [], ◌∷◌, length, get_or, set, arith, ap, sym, ◌∙◌, subst, refl, inl, inr}
+use Rattle.std.proofs.Common.{◌≡◌, ◌≢◌, ◌<◌, ◌⊎◌, ℕ, Bool, true, false, ◌&&◌, Option, Some, None, List, [], ◌∷◌, length, arith, ap, sym, ◌∙◌, refl, inl, inr}
 use Rattle.std.specs.Prelude.{if◌then◌else◌, nat_eq, slice_set, slice_index, slice_index_or}
 use Rattle.std.proofs.lemmas.Bool.{eqb-true, eq-eqb, cases_eq}
 use Rattle.std.proofs.lemmas.List.{length-set, get_or-set_same, get_or-set_other}
-use Rattle.hk_term.specs.Operations.{bit}
 use Rattle.spec_tree.specs.Plain.{Key}
 use Rattle.spec_tree.specs.Sorted.{FieldSort, no_field, product, key_sizes}
 use Rattle.spec_tree.specs.Value.{place_behind}
@@ -16,9 +15,9 @@ equal_or_not a b = cases_eq a b
 
 set_long : (fields : List FieldSort) (state : State) (f p n : ℕ) → IsLong fields state → IsLong fields (entry_set state f (Some p) n)
 set_long fields state f p n s = record {
-    count = length-set state f (slice_set (slice_index_or state f []) p n) ∙ s.count;
-    each = λ g l. by_field g l (equal_or_not g f);
-  }
+  count = length-set state f (slice_set (slice_index_or state f []) p n) ∙ s.count;
+  each = λ g l. by_field g l (equal_or_not g f);
+}
   where
     by_field : (g : ℕ) → g < length fields → (g ≡ f) ⊎ (g ≢ f)
         → length (slice_index_or (slice_set state f (slice_set (slice_index_or state f []) p n)) g []) ≡ product (key_sizes (slice_index_or fields g no_field).keys)
@@ -74,7 +73,7 @@ pub entry_behind : (fields : List FieldSort) (state : State) (f n p g : ℕ) (ke
     → keys ≡ (slice_index_or fields f no_field).keys → p < product (key_sizes keys) → length is ≡ length keys → length js ≡ length keys
     → place_behind 0 keys js ≡ Some p
     → slice_index (slice_index_or (if nat_eq g 1 then entry_set state f (place_behind 0 keys is) n else state) f []) p
-      ≡ (if nat_eq g 1 && same_numbers is js then n else slice_index (slice_index_or state f []) p)
+    ≡ (if nat_eq g 1 && same_numbers is js then n else slice_index (slice_index_or state f []) p)
 entry_behind fields state f n p g keys is js s low k short l m found = by_guard (nat_eq g 1)
   where
     there : f < length state
@@ -82,7 +81,7 @@ entry_behind fields state f n p g keys is js s low k short l m found = by_guard 
 
     within : p < length (slice_index_or state f [])
     within = let e : product (key_sizes keys) ≡ product (key_sizes (slice_index_or fields f no_field).keys) = ap (λ x. product (key_sizes x)) k in
-             omega (arith, short, e, s.each f low)
+        omega (arith, short, e, s.each f low)
 
     by_place : (place : Option ℕ) → place_behind 0 keys is ≡ place → (t : Bool) → same_numbers is js ≡ t
         → slice_index (slice_index_or (entry_set state f place n) f []) p ≡ (if t then n else slice_index (slice_index_or state f []) p)

@@ -1,8 +1,7 @@
 -- The names of a formula: terms for arguments and local names, and variables of quantifiers from an id on.
-use Rattle.std.specs.Prelude.{◌≡◌, ℕ, ◌^◌, ◌<◌, ◌≤◌, List, [], All}
+use Rattle.std.specs.Prelude.{ℕ, ◌^◌, ◌<◌, ◌≤◌, List, [], All}
 use Rattle.hk_term.specs.Meaning.{Reading}
 use Rattle.hk_term.specs.declared.node.Node.{Node}
-use Rattle.spec_tree.specs.Plain.{Tree}
 use Rattle.spec_tree.specs.Sorted.{Context, IsFieldSort}
 use Rattle.spec_tree.specs.Value.{Env}
 use Rattle.hk_symexpr.specs.Sources.{Source}

@@ -5,17 +5,17 @@ use Rattle.std.proofs.lemmas.List.Elements.{All-head, All-tail}
 use Rattle.hk_term.specs.Shape.{width}
 use Rattle.hk_term.specs.Meaning.{Reading, value}
 use Rattle.hk_term.specs.declared.node.Node.{Node}
-use Rattle.hk_symmem.specs.Guarded.{MemoryView, memory_at}
+use Rattle.hk_symmem.specs.Guarded.{MemoryView}
 use Rattle.spec_tree.specs.Plain.{Key, Spec}
 use Rattle.spec_tree.specs.Sorted.{FieldSort, no_field, field_sorts, over_kernel}
 use Rattle.spec_tree.specs.Value.{place_behind}
 use Rattle.spec_tree.specs.Meaning.{State, abstraction, entry_set, in_memory, with_values}
-use Rattle.hk_symexpr.specs.Sources.{Agrees, Keeps}
+use Rattle.hk_symexpr.specs.Sources.{Keeps}
 use Rattle.hk_symexpr.specs.Naming.{IsNamed, name_values}
 use Rattle.hk_symexpr.specs.declared.names.NamedTerm.{NamedTerm}
 use Rattle.hk_symspec.specs.declared.write.EntryWrite.{EntryWrite}
 use Rattle.hk_symspec.specs.States.{StateView, after_write, after_writes, base_at, kernel_at, numbers_at, state_at}
-use Rattle.hk_symspec.specs.Standing.{AreKeyTerms, IsBaseOver, IsEquated, IsKernelOver, IsStateOver, IsSteadyMemory, IsWriteOver, entry_base}
+use Rattle.hk_symspec.specs.Standing.{AreKeyTerms, IsBaseOver, IsEquated, IsStateOver, IsWriteOver}
 use Rattle.hk_symspec.specs.KernelLaws.{kernel_kept, memory_kept}
 
 abbrev pub KeepsValues : List Node → List Node → Type 0
@@ -45,13 +45,13 @@ key_terms_kept old new (k ∷ ks) (i ∷ is) longer keeps h = (omega (arith, h.0
 pub write_kept : (fields : List FieldSort) (old new : List Node) (w : EntryWrite) → length old ≤ length new → ((k : ℕ) → k < length old → width new k ≡ width old k)
     → IsWriteOver fields old w → IsWriteOver fields new w
 write_kept fields old new w longer keeps o = record {
-    field = o.field;
-    index = key_terms_kept old new (slice_index_or fields w.field no_field).keys w.index longer keeps o.index;
-    guard = omega (arith, o.guard, longer);
-    truth = keeps w.guard o.guard ∙ o.truth;
-    value = omega (arith, o.value, longer);
-    number = keeps w.value o.value ∙ o.number;
-  }
+  field = o.field;
+  index = key_terms_kept old new (slice_index_or fields w.field no_field).keys w.index longer keeps o.index;
+  guard = omega (arith, o.guard, longer);
+  truth = keeps w.guard o.guard ∙ o.truth;
+  value = omega (arith, o.value, longer);
+  number = keeps w.value o.value ∙ o.number;
+}
 
 pub writes_over : (fields : List FieldSort) (old new : List Node) (ws : List EntryWrite) → length old ≤ length new → ((k : ℕ) → k < length old → width new k ≡ width old k)
     → All (IsWriteOver fields old) ws → All (IsWriteOver fields new) ws
@@ -61,8 +61,8 @@ pub after_write_kept : (fields : List FieldSort) (old new : List Node) (v : Read
     → after_write fields new v w state ≡ after_write fields old v w state
 after_write_kept fields old new v w state keeps o =
     λ n. if nat_eq (keeps w.guard o.guard v n) 1
-         then entry_set state w.field (place_behind 0 (slice_index_or fields w.field no_field).keys (numbers_kept old new (slice_index_or fields w.field no_field).keys w.index v keeps o.index n)) (keeps w.value o.value v n)
-         else state
+    then entry_set state w.field (place_behind 0 (slice_index_or fields w.field no_field).keys (numbers_kept old new (slice_index_or fields w.field no_field).keys w.index v keeps o.index n)) (keeps w.value o.value v n)
+    else state
 
 pub after_writes_kept : (fields : List FieldSort) (old new : List Node) (v : Reading) (ws : List EntryWrite) (state : State) → KeepsValues old new → All (IsWriteOver fields old) ws
     → after_writes fields new v ws state ≡ after_writes fields old v ws state
@@ -75,14 +75,14 @@ after_writes_kept fields old new v (w ∷ ws) state keeps o =
 
 pub equated_kept : (s : Spec) (m : MemoryView) (locals : List NamedTerm) (old new : List Node) → IsEquated s old m locals → Keeps old new → IsEquated s new m locals
 equated_kept s m locals old new o k = record {
-    kernel = kernel_kept s m old new o.kernel k;
-    named = named_kept old new locals k.longer k.widths o.named;
-    widths = o.widths;
-    values = λ v still.
-        names_kept old new locals v k.values o.named
-        ∙ o.values v (λ u a. sym (memory_kept s m old new o.kernel k u) ∙ still u a ∙ memory_kept s m old new o.kernel k v)
-        ∙ ap (λ x. (with_values (over_kernel s) (in_memory x) s.equation_locals).locals) (sym (memory_kept s m old new o.kernel k v));
-  }
+  kernel = kernel_kept s m old new o.kernel k;
+  named = named_kept old new locals k.longer k.widths o.named;
+  widths = o.widths;
+  values = λ v still.
+      names_kept old new locals v k.values o.named
+      ∙ o.values v (λ u a. sym (memory_kept s m old new o.kernel k u) ∙ still u a ∙ memory_kept s m old new o.kernel k v)
+      ∙ ap (λ x. (with_values (over_kernel s) (in_memory x) s.equation_locals).locals) (sym (memory_kept s m old new o.kernel k v));
+}
 
 pub base_over_kept : (s : Spec) (m : Option MemoryView) (locals : List NamedTerm) (first : ℕ) (old new : List Node) → IsBaseOver s old m locals first → Keeps old new → IsBaseOver s new m locals first
 base_over_kept s (Some m) locals first old new o k = equated_kept s m locals old new o k
@@ -98,9 +98,9 @@ base_at_kept s None locals first old new v o k = refl
 
 pub state_over_kept : (s : Spec) (a : StateView) (old new : List Node) → IsStateOver s old a → Keeps old new → IsStateOver s new a
 state_over_kept s a old new o k = record {
-    base = base_over_kept s a.memory a.locals a.first old new o.base k;
-    writes = writes_over (field_sorts s) old new a.writes k.longer k.widths o.writes;
-  }
+  base = base_over_kept s a.memory a.locals a.first old new o.base k;
+  writes = writes_over (field_sorts s) old new a.writes k.longer k.widths o.writes;
+}
 
 pub state_kept : (s : Spec) (a : StateView) (old new : List Node) (v : Reading) → IsStateOver s old a → Keeps old new → state_at s new a v ≡ state_at s old a v
 state_kept s a old new v o k =

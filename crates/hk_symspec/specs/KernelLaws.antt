@@ -8,7 +8,7 @@ use Rattle.hk_symmem.specs.Guarded.{MemoryView, memory_at}
 use Rattle.hk_symmem.proofs.Laws.{over_grows, memory_grows}
 use Rattle.spec_tree.specs.Plain.{Spec}
 use Rattle.spec_tree.specs.Shapes.{IsMemory}
-use Rattle.hk_symexpr.specs.Sources.{Source, Keeps}
+use Rattle.hk_symexpr.specs.Sources.{Keeps}
 use Rattle.hk_symspec.specs.Standing.{IsKernelOver}
 
 pub keeps_memories : (old new : List Node) → Keeps old new → memory.Keeps old new

@@ -1,7 +1,7 @@
 -- When a list of terms holds all terms of a memory or a state, and when what is read depends on no variable of a formula.
 use Rattle.std.specs.Prelude.{◌≡◌, ℕ, ◌+◌, ◌-◌, ◌^◌, ◌<◌, ◌≤◌, Option, Some, None, List, [], ◌∷◌, map, length, All, slice_index_or}
 use Rattle.hk_term.specs.Shape.{width}
-use Rattle.hk_term.specs.Meaning.{Reading, value}
+use Rattle.hk_term.specs.Meaning.{Reading}
 use Rattle.hk_term.specs.declared.node.Node.{Node}
 use Rattle.hk_symmem.specs.Guarded.{MemoryView, memory_at, IsOver}
 use Rattle.spec_tree.specs.Plain.{Key, Spec}

@@ -50,7 +50,15 @@ fn before_writes<R: InitialReads>(
 {
     match &state.memory {
         Some(memory) => {
-            let made = equation_entry(alloc, t, spec, memory, state.locals.as_slice(), field, index)?;
+            let made = equation_entry(
+                alloc,
+                t,
+                spec,
+                memory,
+                state.locals.as_slice(),
+                field,
+                index,
+            )?;
             Ok(made)
         }
         None => {
@@ -110,7 +118,7 @@ pub(crate) fn read_entry<R: InitialReads>(
     ensures value { IfOk result (λ r. (v : Reading) → AreLimited t.old index.now v → AreSteady entry_base t.old index.now v →
         IsSteadyMemory entry_base t.old state.now.memory v →
         value t.new r v ≡ entry_at (slice_index_or (after_writes (field_sorts (view_spec spec.now)) t.old v writes.now (state_at (view_spec spec.now) t.old state.now v)) field [])
-            (place_behind 0 (slice_index_or (field_sorts (view_spec spec.now)) field no_field).keys (index_values t.old index.now v))) }
+        (place_behind 0 (slice_index_or (field_sorts (view_spec spec.now)) field no_field).keys (index_values t.old index.now v))) }
     ensures keeps_widths { (k : ℕ) → k < length t.old → width t.new k ≡ width t.old k }
     ensures keeps_values { (k : ℕ) → k < length t.old → (v : Reading) → value t.new k v ≡ value t.old k v }
     ensures longer { length t.old ≤ length t.new }

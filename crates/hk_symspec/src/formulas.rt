@@ -41,7 +41,7 @@ pub(crate) fn body_term<R: SymReads>(
     ensures width { IfOk result (λ r. width t.new r ≡ 1) }
     ensures value { IfOk result (λ r. (v : Reading) (env : Env) → Reads (R.source reads.now t.old) (R.named reads.now) t.old [] [] base v env →
         value t.new r v ≡ bit (holds (tree.value (with_locals (formula_context (R.named reads.now) [] [] base) (view_locals body.now.locals))
-            (with_values (formula_context (R.named reads.now) [] [] base) env (view_locals body.now.locals)) (view_expr body.now.value)))) }
+        (with_values (formula_context (R.named reads.now) [] [] base) env (view_locals body.now.locals)) (view_expr body.now.value)))) }
     ensures keeps_widths { (k : ℕ) → k < length t.old → width t.new k ≡ width t.old k }
     ensures keeps_values { (k : ℕ) → k < length t.old → (v : Reading) → value t.new k v ≡ value t.old k v }
     ensures longer { length t.old ≤ length t.new }

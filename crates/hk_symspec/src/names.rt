@@ -70,7 +70,7 @@ pub(crate) fn put_name<R: SymReads>(
     ensures reads { OnOk result ((v : Reading) (env : Env) →
         Reads (R.source reads.now t.old) (R.named reads.now) t.old args.now locals.old.items base v env →
         Reads (R.source reads.now t.new) (R.named reads.now) t.new args.now locals.new.items base v
-            (with_value (formula_context (R.named reads.now) args.now locals.old.items base) env (view_expr e.now))) }
+        (with_value (formula_context (R.named reads.now) args.now locals.old.items base) env (view_expr e.now))) }
     ensures keeps_widths { (k : ℕ) → k < length t.old → width t.new k ≡ width t.old k }
     ensures keeps_values { (k : ℕ) → k < length t.old → (v : Reading) → value t.new k v ≡ value t.old k v }
     ensures longer { length t.old ≤ length t.new }
@@ -102,7 +102,7 @@ pub(crate) fn put_names<R: SymReads>(
     ensures reads { OnOk result ((v : Reading) (env : Env) →
         Reads (R.source reads.now t.old) (R.named reads.now) t.old args.now locals.old.items base v env →
         Reads (R.source reads.now t.new) (R.named reads.now) t.new args.now locals.new.items base v
-            (with_values (formula_context (R.named reads.now) args.now locals.old.items base) env (view_locals names.now))) }
+        (with_values (formula_context (R.named reads.now) args.now locals.old.items base) env (view_locals names.now))) }
     ensures keeps_widths { (k : ℕ) → k < length t.old → width t.new k ≡ width t.old k }
     ensures keeps_values { (k : ℕ) → k < length t.old → (v : Reading) → value t.new k v ≡ value t.old k v }
     ensures longer { length t.old ≤ length t.new }

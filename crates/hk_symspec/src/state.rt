@@ -140,7 +140,7 @@ impl<R: InitialReads> SymAbstract<R> {
         ensures value { IfOk result (λ r. (v : Reading) → IsSteadyMemory entry_base t.old self.now.memory v →
             ((u : Reading) → Agrees entry_base v u → numbers_at t.old index.now u ≡ numbers_at t.old index.now v) →
             value t.new r v ≡ entry_at (slice_index_or (state_at (view_spec spec.now) t.old self.now v) field [])
-                (place_behind 0 (slice_index_or (field_sorts (view_spec spec.now)) field no_field).keys (numbers_at t.old index.now v))) }
+            (place_behind 0 (slice_index_or (field_sorts (view_spec spec.now)) field no_field).keys (numbers_at t.old index.now v))) }
         ensures keeps_widths { (k : ℕ) → k < length t.old → width t.new k ≡ width t.old k }
         ensures keeps_values { (k : ℕ) → k < length t.old → (v : Reading) → value t.new k v ≡ value t.old k v }
         ensures longer { length t.old ≤ length t.new }

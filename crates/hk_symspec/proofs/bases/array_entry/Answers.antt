@@ -1,12 +1,12 @@
-use Rattle.std.proofs.Common.{rules, ◌≡◌, ℕ, ◌+◌, ◌*◌, ◌%◌, ◌^◌, ◌<◌, ◌≤◌, ◌∙◌, Some, List, map, length, ap, sym, subst, arith, lit≤}
+use Rattle.std.proofs.Common.{rules, ◌≡◌, ◌+◌, ◌%◌, ◌^◌, ◌<◌, ◌≤◌, ◌∙◌, Some, List, length, ap, sym, subst, arith}
 use Rattle.std.specs.Prelude.{slice_get, slice_index_or}
 use Rattle.std.proofs.lemmas.List.{length-map}
 use Rattle.hk_term.specs.Meaning.{value}
 use Rattle.spec_tree.specs.Plain as plain
 use Rattle.spec_tree.specs.Plain.{Key}
-use Rattle.spec_tree.specs.Sorted.{FieldSort, IsWidth, field_sorts, key_sizes, no_field, product}
+use Rattle.spec_tree.specs.Sorted.{field_sorts, key_sizes, no_field, product}
 use Rattle.spec_tree.specs.Value.{place_behind}
-use Rattle.spec_tree.specs.View.{view_field, view_key, view_spec}
+use Rattle.spec_tree.specs.View.{view_field, view_spec}
 use Rattle.spec_tree.proofs.Entries.{place_within}
 use Rattle.hk_symexpr.specs.Naming.{AreIndexTerms, index_values}
 use Rattle.hk_symspec.proofs.Turning.{mapped_at}
@@ -43,7 +43,7 @@ returns-clause-value c = λ v p found.
     let same : product (key_sizes keys) ≡ product (key_sizes f.keys) = ap (λ x. product (key_sizes x.keys)) sort in
     let small : p < 2 ^ 64 = omega (arith, low, few, same) in
     let place : value c.place_of.new.t c.in_ok-place.place v ≡ p =
-          c.in_ok-place.ensures.value v p (ap (λ k. place_behind 0 k (index_values c.args.t.now c.args.index.now v)) c.keys_of.ensures ∙ found) small in
+    c.in_ok-place.ensures.value v p (ap (λ k. place_behind 0 k (index_values c.args.t.now c.args.index.now v)) c.keys_of.ensures ∙ found) small in
     let many : length (field_sorts s) ≡ length c.args.spec.now.fields = search (rules, length-map) in
     c.in_ok-made.ensures.value v ∙ ap (λ x. v.entry (c.args.first + c.args.field) x % 2 ^ c.field_at.result.now.width) place
     ∙ ap (λ x. v.entry (c.args.first + c.args.field) p % 2 ^ x.width) (sym sort)

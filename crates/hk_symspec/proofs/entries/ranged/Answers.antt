@@ -16,10 +16,10 @@ pub returns-clause-value : goal.returns-clause-value
 returns-clause-value c = λ v limited state entry.
     let found : value c.constant.new.t c.args.found v ≡ value c.args.t.now c.args.found v = search rules in
     ranged_value (slice_index_or (field_sorts (view_spec c.args.spec.now)) c.args.field no_field).keys (index_values c.args.t.now c.args.index.now v) (slice_index_or state c.args.field [])
-      (value c.constant.new.t c.in_ok-test.test v) (value c.choose.new.t c.in_ok-made.made v) (value c.args.t.now c.args.found v) (value c.constant.new.t c.in_ok-zero.zero v)
-      (c.in_ok-zero.ensures.keeps_values c.in_ok-test.test c.in_ok-test.ensures.within v ∙ c.in_ok-test.ensures.value v limited
-        ∙ ap (λ k. bit (in_range k (index_values c.args.t.now c.args.index.now v))) c.keys_of.ensures)
-      (c.in_ok-zero.ensures.value v)
-      (c.in_ok-made.ensures.value v
-        ∙ (λ j. if nat_eq (value c.constant.new.t c.in_ok-test.test v) 1 then found j else value c.constant.new.t c.in_ok-zero.zero v))
-      entry
+    (value c.constant.new.t c.in_ok-test.test v) (value c.choose.new.t c.in_ok-made.made v) (value c.args.t.now c.args.found v) (value c.constant.new.t c.in_ok-zero.zero v)
+    (c.in_ok-zero.ensures.keeps_values c.in_ok-test.test c.in_ok-test.ensures.within v ∙ c.in_ok-test.ensures.value v limited
+    ∙ ap (λ k. bit (in_range k (index_values c.args.t.now c.args.index.now v))) c.keys_of.ensures)
+    (c.in_ok-zero.ensures.value v)
+    (c.in_ok-made.ensures.value v
+    ∙ (λ j. if nat_eq (value c.constant.new.t c.in_ok-test.test v) 1 then found j else value c.constant.new.t c.in_ok-zero.zero v))
+    entry

@@ -20,7 +20,7 @@ pub behind_all-requires-clause-writes : goal.behind_all-requires-clause-writes
 behind_all-requires-clause-writes g c =
     let fields : List FieldSort = field_sorts (view_spec c.args.spec.now) in
     subst (λ ws. All (IsWriteOver fields c.before_writes.new.t) ws) (sym (c.as_slice.ensures ∙ ap (λ a. a.writes) c.state.view_is))
-      (writes_over fields c.args.t.now c.before_writes.new.t c.args.state.now.writes c.in_ok-found.ensures.longer c.in_ok-found.ensures.keeps_widths c.requires.over.writes)
+    (writes_over fields c.args.t.now c.before_writes.new.t c.args.state.now.writes c.in_ok-found.ensures.longer c.in_ok-found.ensures.keeps_widths c.requires.over.writes)
 
 pub behind_all-requires-clause-index : goal.behind_all-requires-clause-index
 behind_all-requires-clause-index g c =
@@ -53,13 +53,13 @@ returns-clause-value g c = λ v limited steady still.
     let k2 : KeepsValues c.args.t.now c.behind_all.new.t = search rules in
     let k3 : KeepsValues c.args.t.now c.behind_all-2.new.t = search rules in
     let E : List EntryWrite → Type 0 = λ ws. (st : State) → IsLong fields st → IsEntry fields c.args.field (index_values c.before_writes.new.t c.args.index.now v) st (value c.before_writes.new.t c.in_ok-found.found v)
-          → IsEntry fields c.args.field (index_values c.before_writes.new.t c.args.index.now v) (after_writes fields c.before_writes.new.t v ws st) (value c.behind_all.new.t c.in_ok-earlier.earlier v) in
+    → IsEntry fields c.args.field (index_values c.before_writes.new.t c.args.index.now v) (after_writes fields c.before_writes.new.t v ws st) (value c.behind_all.new.t c.in_ok-earlier.earlier v) in
     read_value fields c.args.t.now c.before_writes.new.t c.behind_all.new.t c.behind_all-2.new.t v c.args.field c.args.index.now c.args.state.now.writes c.args.writes.now
-      (base_at s c.args.t.now c.args.state.now.memory c.args.state.now.first v)
-      (value c.before_writes.new.t c.in_ok-found.found v) (value c.behind_all.new.t c.in_ok-earlier.earlier v) (value c.behind_all-2.new.t c.in_ok-later.later v) (value c.ranged.new.t c.in_ok-made.made v)
-      k1 k2 k3 c.requires.index c.requires.over.writes c.requires.writes
-      (base_long s c.args.t.now c.args.state.now.memory c.args.state.now.locals c.args.state.now.first v c.requires.spec c.requires.over.base)
-      (c.in_ok-found.ensures.value v limited steady still)
-      (subst E (c.as_slice.ensures ∙ ap (λ a. a.writes) c.state.view_is) (λ st. c.in_ok-earlier.ensures.value v st))
-      (λ st. c.in_ok-later.ensures.value v st)
-      (λ st. c.in_ok-made.ensures.value v (limits_kept c.args.t.now c.behind_all-2.new.t c.args.index.now v (indices_kept c.args.t.now c.behind_all-2.new.t keys c.args.index.now v k3 c.requires.index) limited) st)
+    (base_at s c.args.t.now c.args.state.now.memory c.args.state.now.first v)
+    (value c.before_writes.new.t c.in_ok-found.found v) (value c.behind_all.new.t c.in_ok-earlier.earlier v) (value c.behind_all-2.new.t c.in_ok-later.later v) (value c.ranged.new.t c.in_ok-made.made v)
+    k1 k2 k3 c.requires.index c.requires.over.writes c.requires.writes
+    (base_long s c.args.t.now c.args.state.now.memory c.args.state.now.locals c.args.state.now.first v c.requires.spec c.requires.over.base)
+    (c.in_ok-found.ensures.value v limited steady still)
+    (subst E (c.as_slice.ensures ∙ ap (λ a. a.writes) c.state.view_is) (λ st. c.in_ok-earlier.ensures.value v st))
+    (λ st. c.in_ok-later.ensures.value v st)
+    (λ st. c.in_ok-made.ensures.value v (limits_kept c.args.t.now c.behind_all-2.new.t c.args.index.now v (indices_kept c.args.t.now c.behind_all-2.new.t keys c.args.index.now v k3 c.requires.index) limited) st)

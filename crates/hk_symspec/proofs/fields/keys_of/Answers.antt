@@ -1,4 +1,4 @@
-use Rattle.std.proofs.Common.{◌≡◌, ◌∙◌, Some, map, ap, sym}
+use Rattle.std.proofs.Common.{◌∙◌, map, ap, sym}
 use Rattle.spec_tree.specs.Sorted.{no_field}
 use Rattle.spec_tree.specs.View.{view_field, view_key, view_spec}
 use Rattle.hk_symspec.proofs.Turning.{mapped_at}

@@ -18,4 +18,4 @@ returns-clause-value g c = λ n found v steady.
     let is : c.index-as_slice-i.result ≡ slice_index_or c.args.spec.now.invariants c.args.i c.index-as_slice-i.result = search rules in
     c.in_ok-truth_in_memory.ensures.value v steady
     ∙ ap (λ x. bit (invariant_holds (view_spec c.args.spec.now) x (memory_at c.args.t.now c.args.memory.now v)))
-        (found_at view_named c.args.spec.now.invariants c.args.i c.index-as_slice-i.result n c.requires.there is found)
+    (found_at view_named c.args.spec.now.invariants c.args.i c.index-as_slice-i.result n c.requires.there is found)

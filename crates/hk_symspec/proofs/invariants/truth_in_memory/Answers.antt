@@ -8,7 +8,7 @@ use Rattle.hk_symspec.proofs.invariants.truth_in_memory.Goals as goal
 pub body_term-requires-clause-formula : goal.body_term-requires-clause-formula
 body_term-requires-clause-formula g c =
     begun_formula (over_kernel (view_spec c.args.spec.now)) 4294967295 c.args.t.now 65536 (lit≤ tt)
-      (kernel_has (view_spec c.args.spec.now) c.requires.spec).fields c.objects_are_small-objects.ensures
+    (kernel_has (view_spec c.args.spec.now) c.requires.spec).fields c.objects_are_small-objects.ensures
 
 pub returns-clause-value : goal.returns-clause-value
 returns-clause-value g c = λ v steady.

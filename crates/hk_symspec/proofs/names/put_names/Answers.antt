@@ -37,5 +37,5 @@ each-preserved g c =
 pub returns-clause-reads : goal.returns-clause-reads
 returns-clause-reads g c = λ v env s.
     led (g.R.SymReads.source c.args.reads.now c.each.t) (g.R.SymReads.named c.args.reads.now) c.each.t c.args.args.now c.each.locals.items c.args.base
-      (map view_expr (drop c.each.e-index c.as_slice-e-items.result.now)) v _
-      (ap (map view_expr) (drop_end c.as_slice-e-items.result.now c.each.e-index c.each-test.false)) (c.each.invariant.leads v env s)
+    (map view_expr (drop c.each.e-index c.as_slice-e-items.result.now)) v _
+    (ap (map view_expr) (drop_end c.as_slice-e-items.result.now c.each.e-index c.each-test.false)) (c.each.invariant.leads v env s)

@@ -19,7 +19,7 @@ invariant-each g l = record {
       ≡ with_locals (formula_context (g.R.SymReads.named l.reads) l.args l.initial.locals.items l.base) (view_locals l.names);
   leads : (v : Reading) (env : Env) → Reads (g.R.SymReads.source l.reads l.initial.t) (g.R.SymReads.named l.reads) l.initial.t l.args l.initial.locals.items l.base v env
       → Leads (g.R.SymReads.source l.reads l.t) (g.R.SymReads.named l.reads) l.t l.args l.locals.items l.base (map view_expr (drop l.e-index l.e-items)) v
-          (with_values (formula_context (g.R.SymReads.named l.reads) l.args l.initial.locals.items l.base) env (view_locals l.names));
+      (with_values (formula_context (g.R.SymReads.named l.reads) l.args l.initial.locals.items l.base) env (view_locals l.names));
   keeps_widths : (k : ℕ) → k < length l.initial.t → width l.t k ≡ width l.initial.t k;
   keeps_values : (k : ℕ) → k < length l.initial.t → (v : Reading) → value l.t k v ≡ value l.initial.t k v;
   longer : length l.initial.t ≤ length l.t;

@@ -28,7 +28,7 @@ each-preserved c =
       within = search rules;
       size = search rules;
       overlaid = λ v state long entry.
-        overlaid_on fields c.args.t.now c.each.t v c.args.field (slice_index_or fields c.args.field no_field).keys c.args.index.now
+          overlaid_on fields c.args.t.now c.each.t v c.args.field (slice_index_or fields c.args.field no_field).keys c.args.index.now
           (drop c.each.w-index c.args.writes.now) (drop (c.each.w-index + 1) c.args.writes.now) c.w-item.result (value c.each.t c.each.made v) (value c.behind_write.new.t c.in_ok-made.made v) _
           (part_at c.args.writes.now c.each.w-index c.w-item.result c.w-item.is c.each-test.true) c.each.invariant.keeps_values over c.requires.index
           (λ s. c.in_ok-made.ensures.value v s) (c.each.invariant.overlaid v state long entry);

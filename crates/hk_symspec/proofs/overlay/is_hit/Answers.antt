@@ -1,4 +1,4 @@
-use Rattle.std.proofs.Common.{rules, ◌≡◌, ℕ, ◌<◌, ◌≤◌, ◌∙◌, map, sym, arith}
+use Rattle.std.proofs.Common.{rules, ◌≡◌, ◌∙◌, map, sym, arith}
 use Rattle.std.specs.Prelude.{nat_eq}
 use Rattle.std.proofs.lemmas.List.{length-map}
 use Rattle.hk_simplify.proofs.FormLaws.{grows-trans}
@@ -11,14 +11,14 @@ use Rattle.hk_symspec.proofs.overlay.is_hit.Goals as goal
 
 pub each-init : goal.each-init
 each-init c = record {
-    within = c.requires.guard;
-    size = c.requires.truth;
-    matches = λ v p e. matches_begin c.args.t.now c.args.index.now c.args.other.now v p (value c.args.t.now c.args.guard v) e;
-    keeps_widths = search rules;
-    keeps_values = search rules;
-    longer = search rules;
-    grows = search rules;
-  }
+  within = c.requires.guard;
+  size = c.requires.truth;
+  matches = λ v p e. matches_begin c.args.t.now c.args.index.now c.args.other.now v p (value c.args.t.now c.args.guard v) e;
+  keeps_widths = search rules;
+  keeps_values = search rules;
+  longer = search rules;
+  grows = search rules;
+}
 
 pub term_at-one-requires : goal.term_at-one-requires
 term_at-one-requires c =
@@ -50,13 +50,13 @@ each-preserved c =
       within = search rules;
       size = search rules;
       matches = λ v q e.
-        let one : value c.each.t c.term_at-one.result v ≡ value c.args.t.now c.term_at-one.result v = c.each.invariant.keeps_values c.term_at-one.result p.first v in
-        let two : value c.each.t c.limit_at-two.result.term v ≡ value c.args.t.now c.limit_at-two.result.term v = c.each.invariant.keeps_values c.limit_at-two.result.term p.second v in
-        matches_on c.args.t.now c.args.index.now c.args.other.now c.each.k v q (value c.each.t c.each.made v) (value c.both.new.t c.in_ok-made.made v) c.term_at-one.result c.limit_at-two.result
+          let one : value c.each.t c.term_at-one.result v ≡ value c.args.t.now c.term_at-one.result v = c.each.invariant.keeps_values c.term_at-one.result p.first v in
+          let two : value c.each.t c.limit_at-two.result.term v ≡ value c.args.t.now c.limit_at-two.result.term v = c.each.invariant.keeps_values c.limit_at-two.result.term p.second v in
+          matches_on c.args.t.now c.args.index.now c.args.other.now c.each.k v q (value c.each.t c.each.made v) (value c.both.new.t c.in_ok-made.made v) c.term_at-one.result c.limit_at-two.result
           c.term_at-one.ensures c.limit_at-two.ensures
           (λ a b ea eb. c.in_ok-made.ensures.value v a b
-            (c.in_ok-same.ensures.keeps_values c.each.made c.each.invariant.within v ∙ ea)
-            (c.in_ok-same.ensures.value v ∙ (λ j. bit (nat_eq (one j) (two j))) ∙ eb))
+          (c.in_ok-same.ensures.keeps_values c.each.made c.each.invariant.within v ∙ ea)
+          (c.in_ok-same.ensures.value v ∙ (λ j. bit (nat_eq (one j) (two j))) ∙ eb))
           (c.each.invariant.matches v q e);
       keeps_widths = search rules;
       keeps_values = search rules;
@@ -67,5 +67,5 @@ each-preserved c =
 pub returns-clause-value : goal.returns-clause-value
 returns-clause-value c = λ v p e.
     matches_end c.args.t.now c.args.index.now c.args.other.now c.each.k v p (value c.each.t c.each.made v)
-      (omega (arith, c.each-test.false, key_length c.args.t.now (map view_key c.args.keys.now) c.args.index.now c.requires.index, length-map c.args.keys.now view_key))
-      (c.each.invariant.matches v p e)
+    (omega (arith, c.each-test.false, key_length c.args.t.now (map view_key c.args.keys.now) c.args.index.now c.requires.index, length-map c.args.keys.now view_key))
+    (c.each.invariant.matches v p e)

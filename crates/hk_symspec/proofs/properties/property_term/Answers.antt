@@ -18,4 +18,4 @@ returns-clause-value g c = λ n found v steady.
     let is : c.index-as_slice-p.result ≡ slice_index_or c.args.spec.now.properties c.args.p c.index-as_slice-p.result = search rules in
     c.in_ok-truth_in_state.ensures.value v steady
     ∙ ap (λ x. bit (property_holds (view_spec c.args.spec.now) x (state_at (view_spec c.args.spec.now) c.args.t.now c.args.state.now v)))
-        (found_at view_named c.args.spec.now.properties c.args.p c.index-as_slice-p.result n c.requires.there is found)
+    (found_at view_named c.args.spec.now.properties c.args.p c.index-as_slice-p.result n c.requires.there is found)

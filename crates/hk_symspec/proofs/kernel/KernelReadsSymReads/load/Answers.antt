@@ -1,4 +1,4 @@
-use Rattle.std.proofs.Common.{◌∙◌, sym, subst, ℕ, ◌<◌, rules}
+use Rattle.std.proofs.Common.{◌∙◌, sym, subst, ℕ, ◌<◌}
 use Rattle.spec_tree.specs.View.{view_spec}
 use Rattle.hk_symspec.proofs.Bytes.{load_is, width_of_power, origins_count}
 use Rattle.hk_symspec.proofs.kernel.KernelReadsSymReads.load.Goals as goal

@@ -16,7 +16,7 @@ limits_of-requires g c = terms_there c.args.t.now (slice_index_or (field_sorts (
 pub read_entry-requires-clause-index : goal.read_entry-requires-clause-index
 read_entry-requires-clause-index g c =
     index_terms_of c.args.t.now (slice_index_or (field_sorts (view_spec c.args.spec.now)) c.args.field no_field).keys c.args.index.now c.as_slice.result.now
-      (ap (map (λ (i : Limit). i.term)) c.as_slice.ensures.value ∙ c.in_ok-limits.ensures.terms) c.requires.index
+    (ap (map (λ (i : Limit). i.term)) c.as_slice.ensures.value ∙ c.in_ok-limits.ensures.terms) c.requires.index
 
 pub returns-clause-value : goal.returns-clause-value
 returns-clause-value g c = λ v still steady.
@@ -26,4 +26,4 @@ returns-clause-value g c = λ v still steady.
     let most : All P c.as_slice.result.now = subst (All P) (sym c.as_slice.ensures.value) c.in_ok-limits.ensures.most in
     c.in_ok-made.ensures.value v (λ k d l. most k d l v) (λ u a. same u ∙ steady u a ∙ sym (same v)) still
     ∙ ap (λ is. entry_at (slice_index_or (state_at (view_spec c.args.spec.now) c.args.t.now c.args.self.now v) c.args.field [])
-        (place_behind 0 (slice_index_or (field_sorts (view_spec c.args.spec.now)) c.args.field no_field).keys is)) (same v)
+    (place_behind 0 (slice_index_or (field_sorts (view_spec c.args.spec.now)) c.args.field no_field).keys is)) (same v)

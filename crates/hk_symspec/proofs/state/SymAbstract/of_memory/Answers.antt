@@ -1,4 +1,4 @@
-use Rattle.std.proofs.Common.{◌≡◌, ◌∙◌, List, [], ap, sym, subst, lit≤}
+use Rattle.std.proofs.Common.{List, [], sym, subst, lit≤}
 use Rattle.spec_tree.specs.Sorted.{AreLocals, over_kernel}
 use Rattle.spec_tree.specs.View.{view_locals, view_spec}
 use Rattle.spec_tree.proofs.Keeping.{kernel_has}
@@ -11,7 +11,7 @@ pub put_names-requires-clause-formula : goal.put_names-requires-clause-formula
 put_names-requires-clause-formula g c =
     let P : List NamedTerm → Type 0 = λ l. IsFormula (over_kernel (view_spec c.args.spec.now)) 4294967295 c.args.t.now [] l 16777216 in
     subst P (sym c.new-locals.ensures.items)
-      (begun_formula (over_kernel (view_spec c.args.spec.now)) 4294967295 c.args.t.now 16777216 (lit≤ tt) (kernel_has (view_spec c.args.spec.now) c.requires.spec).fields c.objects_are_small-objects.ensures)
+    (begun_formula (over_kernel (view_spec c.args.spec.now)) 4294967295 c.args.t.now 16777216 (lit≤ tt) (kernel_has (view_spec c.args.spec.now) c.requires.spec).fields c.objects_are_small-objects.ensures)
 
 pub put_names-requires-clause-sorted : goal.put_names-requires-clause-sorted
 put_names-requires-clause-sorted g c =
