@@ -1,4 +1,0 @@
-pub mod Sources
-pub mod Scope
-pub mod Naming
-pub mod Made
