@@ -19,7 +19,8 @@ use Rattle.hk_case.specs.declared.Obligation.TheVariants.{Undefined, Invariant, 
 use Rattle.hk_case.specs.declared.Case.{Case}
 use Rattle.hk_case.specs.declared.Case.TheVariants.{Machine, Abstract}
 use Rattle.hk_case.specs.Obligations.{IsConstantKept, IsMachineState, IsCase}
-use Rattle.hk_oblig.specs.Cases.{arguments_from, arguments_at, array_entries, free_state, case_at, HasBytes}
+use Rattle.hk_symspec.specs.States.{array_entries, free_state}
+use Rattle.hk_oblig.specs.Cases.{arguments_from, arguments_at, case_at, HasBytes}
 
 none : (k : ℕ) → 0 + k ≡ k
 none k = omega arith

@@ -2,3 +2,14 @@ mod Turns
 mod CaseLaws
 mod UniformLaws
 mod TellingLaws
+mod Growing
+mod Gathering
+mod Executing
+mod Owing
+mod Running
+mod VariableLaws
+mod LayoutLaws
+mod Stepping
+mod Readiness
+mod Answering
+mod Fitting

@@ -22,7 +22,8 @@ use Rattle.hk_oblig.specs.declared.parts.StepParts.{StepParts}
 use Rattle.hk_oblig.specs.declared.parts.Parts.{Parts}
 use Rattle.hk_oblig.specs.declared.parts.Parts.TheVariants.{Run, Step}
 use Rattle.hk_oblig.specs.GoalTruths.{HasGoal, HasResult, missed, is_met, goal_is, number_of}
-use Rattle.hk_oblig.specs.Telling.{TellEach, TellsResult, TellsReturn, TellsEnd, TellsRun, TellsStep, Tells}
+use Rattle.hk_symresult.specs.Results.{TellsResult}
+use Rattle.hk_oblig.specs.Telling.{TellEach, TellsReturn, TellsEnd, TellsRun, TellsStep, Tells}
 
 -- ---- truths
 

@@ -1,5 +1,5 @@
 -- What the values of the parts of a goal mean for a case.
-use Rattle.std.specs.Prelude.{◌≡◌, ◌<◌, ◌↔◌, ℕ, Bool, true, false, IsTrue, Option, Some, None, option_map, List, [], length, slice_get, slice_index, slice_index_or}
+use Rattle.std.specs.Prelude.{◌≡◌, ◌<◌, ◌↔◌, ℕ, Bool, true, false, IsTrue, Option, Some, option_map, List, [], length, slice_get, slice_index, slice_index_or}
 use Rattle.hk_term.specs.Meaning.{Reading, value}
 use Rattle.hk_term.specs.declared.node.Node.{Node}
 use Rattle.hk_symvalue.specs.Meaning.{is_true}
@@ -13,6 +13,7 @@ use Rattle.spec_tree.specs.Meaning.{invariant_holds, property_holds, abstraction
 use Rattle.hk_case.specs.declared.Case.{Case}
 use Rattle.hk_case.specs.declared.Case.TheVariants.{Machine, Abstract}
 use Rattle.hk_case.specs.Violation.{Memory, specified, HaveProperties}
+use Rattle.hk_symresult.specs.Results.{TellsResult}
 use Rattle.hk_oblig.specs.declared.parts.RunParts.{RunParts}
 use Rattle.hk_oblig.specs.declared.parts.StepParts.{StepParts}
 use Rattle.hk_oblig.specs.declared.parts.Parts.{Parts}
@@ -28,12 +29,6 @@ pub record TellFields (nodes : List Node) (v : Reading) (terms : List ℕ) (s : 
   pub count : length terms ≡ length s.fields
   pub each : (f : ℕ) → f < length s.fields
       → IsTrue (is_true nodes (slice_index terms f) v) ↔ (slice_index_or after f [] ≡ slice_index_or wanted f [])
-
--- the term of the result is the returned number; there is none where nothing is returned
-abbrev pub TellsResult : List Node → Reading → Option ℕ → Option ℕ → Type 0
-TellsResult nodes v None None = Unit {0}
-TellsResult nodes v (Some r) (Some n) = value nodes r v ≡ n
-TellsResult nodes v _ _ = ⊥
 
 -- what is told of a run that comes back with a value and a memory
 pub record TellsReturn (nodes : List Node) (v : Reading) (p : RunParts) (s : Spec) (t : Transition) (memory : Memory) (args : List ℕ)

@@ -12,7 +12,8 @@ ghost use Rattle.spec_tree.specs.View.{view_field, view_spec, view_transition};
 ghost use Rattle.hk_case.specs.declared.Case.{Case};
 ghost use Rattle.hk_case.specs.declared.Case.TheVariants.{Machine, Abstract};
 ghost use Rattle.hk_case.specs.Obligations.{IsCase};
-ghost use Rattle.hk_oblig.specs.Cases.{case_at, HasBytes, free_state, array_entries, arguments_at};
+ghost use Rattle.hk_symspec.specs.States.{array_entries, free_state};
+ghost use Rattle.hk_oblig.specs.Cases.{case_at, HasBytes, arguments_at};
 
 use crate::numbers::{entries, entries_in, variables};
 use hk_case::{Case, Obligation};

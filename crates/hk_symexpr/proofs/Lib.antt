@@ -1,6 +1,6 @@
 mod Frames
 mod Suiting
-mod Tuples
+pub mod Tuples
 mod Leaves
 mod Joins
 mod Walks

@@ -88,13 +88,13 @@ with_vars_low v id (n ∷ ns) j low = with_vars_low (with_var v id n) (id + 1) n
 pub with_vars_agree : (v : Reading) (id : ℕ) (t : List ℕ) → Agrees id v (with_vars v id t)
 with_vars_agree v id t = record { entry = with_vars_entry v id t; var = with_vars_low v id t }
 
-variables_are : (sizes t : List ℕ) → AreBelow sizes t → (id : ℕ) (v : Reading) → variables_from id sizes (with_vars v id t) ≡ t
+pub variables_are : (sizes t : List ℕ) → AreBelow sizes t → (id : ℕ) (v : Reading) → variables_from id sizes (with_vars v id t) ≡ t
 variables_are [] t h id v = sym h
 variables_are (n ∷ ns) [] h id v = absurd h
 variables_are (n ∷ ns) (k ∷ ks) h id v =
     λ i. (with_vars_low (with_var v id k) (id + 1) ks id (omega arith) ∙ same_var v id k) i ∷ variables_are ns ks h.1 (id + 1) (with_var v id k) i
 
-variables_agree : (sizes : List ℕ) (id limit : ℕ) (v u : Reading) → id + length sizes ≤ limit → Agrees limit v u → variables_from id sizes u ≡ variables_from id sizes v
+pub variables_agree : (sizes : List ℕ) (id limit : ℕ) (v u : Reading) → id + length sizes ≤ limit → Agrees limit v u → variables_from id sizes u ≡ variables_from id sizes v
 variables_agree [] id limit v u h a = refl
 variables_agree (n ∷ ns) id limit v u h a = λ i. a.var id (omega (arith, h)) i ∷ variables_agree ns (id + 1) limit v u (omega (arith, h)) a i
 

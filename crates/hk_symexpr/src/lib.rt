@@ -21,5 +21,6 @@ mod term;
 
 pub use conditions::learn;
 pub use names::{Limit, NamedTerm, Names};
+pub use quantify::every;
 pub use reads::SymReads;
 pub use term::term_of;

@@ -35,8 +35,9 @@ fn variables(alloc: Global, first: u32, sizes: &[u32]) -> Result<BoundList, Allo
     Ok(BoundList::from_vec(bounds))
 }
 
-/// Whether a truth holds for all numbers of its variables.
-pub(crate) fn every(
+/// Whether a truth holds for all numbers of variables, each below its size. The ids are those from the first on. The condition is
+/// that there are such ids.
+pub fn every(
     alloc: Global,
     t: &mut Terms,
     first: u32,

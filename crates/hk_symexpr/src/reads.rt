@@ -35,7 +35,7 @@ pub trait SymReads {
         ensures { result ≡ limit self.now };
 
     /// The number in so many bytes of an object from an offset on, the low byte first. Its value is free where the range does not
-    /// lie in the object.
+    /// lie in the object, and where the kernel may not be read.
     fn load(
         &self,
         alloc: Global,
@@ -45,14 +45,13 @@ pub trait SymReads {
         bytes: u32,
     ) -> Result<TermId, AllocError>
         requires over { is_over self.now t.old }
-        requires kernel { (named self.now).kernel ≡ true }
         requires object { object < length (named self.now).objects }
         requires bytes { (k : ℕ) × (k < 4) × (bytes ≡ 2 ^ k) }
         requires offset { offset < length t.old }
         requires address { width t.old offset ≡ 64 }
         ensures within { IfOk result (λ r. r < length t.new) }
         ensures width { IfOk result (λ r. width t.new r ≡ 8 * bytes) }
-        ensures value { IfOk result (λ r. (v : Reading) → IsMemory (named self.now).objects (source self.now t.old v).memory →
+        ensures value { IfOk result (λ r. (named self.now).kernel ≡ true → (v : Reading) → IsMemory (named self.now).objects (source self.now t.old v).memory →
             value t.old offset v + bytes ≤ length (slice_index_or (source self.now t.old v).memory object []) →
             value t.new r v ≡ load (slice_index_or (source self.now t.old v).memory object []) (value t.old offset v) bytes) }
         ensures keeps_widths { (k : ℕ) → k < length t.old → width t.new k ≡ width t.old k }
@@ -61,7 +60,7 @@ pub trait SymReads {
         ensures grows { Grows t.old t.new };
 
     /// The entry of a field of a state, 0 where an index is not below its key's size. Each index comes with the greatest number
-    /// that it may have: where that is below the key's size, no test is needed.
+    /// that it may have: where that is below the key's size, no test is needed. Its value is free where the state may not be read.
     fn entry(
         &self,
         alloc: Global,
@@ -71,13 +70,12 @@ pub trait SymReads {
         index: &[Limit],
     ) -> Result<TermId, AllocError>
         requires over { is_over self.now t.old }
-        requires reads { reads (named self.now) name ≡ true }
         requires field { field < length (named self.now).fields }
         requires sort { IsFieldSort (slice_index_or (named self.now).fields field no_field) }
         requires index { AreIndexTerms t.old (slice_index_or (named self.now).fields field no_field).keys index.now }
         ensures within { IfOk result (λ r. r < length t.new) }
         ensures width { IfOk result (λ r. width t.new r ≡ (slice_index_or (named self.now).fields field no_field).width) }
-        ensures value { IfOk result (λ r. (v : Reading) → AreLimited t.old index.now v → AreSteady (limit self.now) t.old index.now v →
+        ensures value { IfOk result (λ r. reads (named self.now) name ≡ true → (v : Reading) → AreLimited t.old index.now v → AreSteady (limit self.now) t.old index.now v →
             Rests (limit self.now) (source self.now t.old) v →
             value t.new r v ≡ entry_at (slice_index_or (state_in (source self.now t.old v) name) field [])
             (place_behind 0 (slice_index_or (named self.now).fields field no_field).keys (index_values t.old index.now v))) }

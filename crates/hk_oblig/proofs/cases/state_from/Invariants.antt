@@ -2,7 +2,7 @@ use Rattle.std.proofs.Common.{◌≡◌, ◌+◌, ◌++◌, drop, map}
 use Rattle.hk_term.specs.Tables.{entry_at}
 use Rattle.spec_tree.specs.Sorted.{sort_of}
 use Rattle.spec_tree.specs.View.{view_field}
-use Rattle.hk_oblig.specs.Cases.{free_state}
+use Rattle.hk_symspec.specs.States.{free_state}
 use Rattle.hk_oblig.proofs.cases.state_from.Given as goal
 
 abbrev pub invariant-each : goal.invariant-each

@@ -1,0 +1,17 @@
+pub mod Bytes
+pub mod Turning
+pub mod NameLaws
+pub mod IndexLaws
+pub mod PlaceLaws
+pub mod WriteLaws
+pub mod OverlayLaws
+pub mod EquationLaws
+pub mod ArrayLaws
+pub mod BlindLaws
+pub mod ReadLaws
+pub mod StateReading
+pub mod StateMaking
+pub mod FreeLaws
+pub mod Agreeing
+pub mod LineLaws
+pub mod StepLaws

@@ -1,0 +1,9 @@
+pub mod States
+pub mod Standing
+pub mod Formulas
+pub mod Ranges
+pub mod Agreement
+pub mod KernelLaws
+pub mod KeptLaws
+pub mod Steps
+pub mod Lines
