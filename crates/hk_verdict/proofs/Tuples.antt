@@ -1,7 +1,6 @@
 -- A tuple by its place, one key at a time.
-use Rattle.std.proofs.Common.{◌≡◌, ◌+◌, ◌*◌, ◌/◌, ◌%◌, ◌<◌, ◌≤◌, ℕ, zero, suc, List, [], ◌∷◌, ◌++◌, drop, length, map, get_or, arith, ap, sym, ◌∙◌, subst, refl}
+use Rattle.std.proofs.Common.{◌≡◌, ◌+◌, ◌*◌, ◌/◌, ◌%◌, ◌<◌, ℕ, zero, suc, List, [], ◌∷◌, ◌++◌, drop, length, map, get_or, arith, ap, sym, ◌∙◌, subst, refl}
 use Rattle.std.proofs.Math.Nat.{mod-lt, mul-div_cancel_left}
-use Rattle.std.proofs.Math.Seq.{drop-cons}
 use Rattle.std.proofs.lemmas.List.{append_assoc}
 use Rattle.spec_tree.specs.declared.sort.Sort.{Sort}
 use Rattle.spec_tree.specs.View.{view_key, size_of}

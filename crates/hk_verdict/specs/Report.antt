@@ -50,21 +50,33 @@ abbrev pub case_text : ModuleView → Spec → Case → List ℕ
 case_text m s (Machine memory args) = args_text args ++ memory_text m.globals memory
 case_text m s (Abstract state args) = args_text args ++ entries_text [] s state
 
--- the line of a rejection, by the word of an obligation and the name that it has
+-- a line of a word, a handler, and an obligation by its own word and the name that it has
+abbrev pub named_line : List ℕ → List ℕ → List ℕ → List ℕ → List ℕ
+named_line word handler kind name = line (word ∷ handler ∷ codes " " ∷ kind ∷ name ∷ [])
+
+abbrev pub obligation_line : List ℕ → Spec → List ℕ → Obligation → List ℕ
+obligation_line word s handler Undefined = named_line word handler (codes "undefined") []
+obligation_line word s handler (Invariant i) = named_line word handler (codes "invariant ") (named_text (slice_get s.invariants i))
+obligation_line word s handler (State f) = named_line word handler (codes "state ") (field_name (slice_get s.fields f))
+obligation_line word s handler ResultValue = named_line word handler (codes "result") []
+obligation_line word s handler (Property p) = named_line word handler (codes "property ") (named_text (slice_get s.properties p))
+
+-- the line of a rejection
 abbrev pub named_rejection : List ℕ → List ℕ → List ℕ → List ℕ
-named_rejection handler kind name = line (codes "reject " ∷ handler ∷ codes " " ∷ kind ∷ name ∷ [])
+named_rejection handler kind name = named_line (codes "reject ") handler kind name
 
 abbrev pub rejection_line : Spec → Transition → Obligation → List ℕ
-rejection_line s t Undefined = named_rejection t.name (codes "undefined") []
-rejection_line s t (Invariant i) = named_rejection t.name (codes "invariant ") (named_text (slice_get s.invariants i))
-rejection_line s t (State f) = named_rejection t.name (codes "state ") (field_name (slice_get s.fields f))
-rejection_line s t ResultValue = named_rejection t.name (codes "result") []
-rejection_line s t (Property p) = named_rejection t.name (codes "property ") (named_text (slice_get s.properties p))
+rejection_line s t o = obligation_line (codes "reject ") s t.name o
+
+-- the line of a handler that was not decided, by the obligation that was not
+abbrev pub unknown_line : Spec → Transition → Obligation → List ℕ
+unknown_line s t o = obligation_line (codes "unknown ") s t.name o
 
 -- the lines of a handler's verdict
 abbrev pub verdict_text : ModuleView → Spec → Transition → Verdict → List ℕ
-verdict_text m s t verdict.Accepted = two_texts (codes "accept ") t.name
+verdict_text m s t (verdict.Accepted proofs) = two_texts (codes "accept ") t.name
 verdict_text m s t (verdict.Rejected o case) = rejection_line s t o ++ case_text m s case
+verdict_text m s t (verdict.Unknown o instances clauses log) = unknown_line s t o
 verdict_text m s t verdict.Memory = two_texts (codes "memory ") t.name
 
 -- what a case must be for its lines: an abstract state has the specification's shape

@@ -8,7 +8,7 @@ ghost use Rattle.spec_tree.specs.Shapes.{IsState};
 ghost use Rattle.spec_tree.specs.View.{view_field, view_named, view_spec, view_transition};
 ghost use Rattle.hk_rows.specs.Rows.{memory_text};
 ghost use Rattle.hk_verdict.specs.Entries.{entries_text};
-ghost use Rattle.hk_verdict.specs.Report.{init_text, arg_text, args_text, case_text, two_texts, named_text, field_name, named_rejection, rejection_line, verdict_text, IsShown, IsShownVerdict};
+ghost use Rattle.hk_verdict.specs.Report.{init_text, arg_text, args_text, case_text, two_texts, named_text, field_name, named_line, obligation_line, rejection_line, unknown_line, verdict_text, IsShown, IsShownVerdict};
 
 use crate::entries::put_entries;
 use crate::verdict::{InitVerdict, Verdict};
@@ -226,15 +226,16 @@ fn put_case<O: Sink>(
     }
 }
 
-/// Puts a line of the word `reject`, a handler, and an obligation of a name.
+/// Puts a line of a word, a handler, and an obligation of a name.
 fn put_named<'x, O: Sink>(
     out: &mut O,
+    word: &'x [u8],
     handler: &'x [u8],
     kind: &'x [u8],
     name: &'x [u8],
 ) -> Result<(), SinkFault>
-    ensures whole { OnOk result (O.shown out.new ≡ shown_with (O.shown out.old) (named_rejection handler.now kind.now name.now)) }
-    ensures cut { OnErr result (ShowsPrefix (O.shown out.old) (O.shown out.new) (named_rejection handler.now kind.now name.now)) }
+    ensures whole { OnOk result (O.shown out.new ≡ shown_with (O.shown out.old) (named_line word.now handler.now kind.now name.now)) }
+    ensures cut { OnErr result (ShowsPrefix (O.shown out.old) (O.shown out.new) (named_line word.now handler.now kind.now name.now)) }
     ensures failed { OnErr result (Rose (O.faults out.old) (O.faults out.new)) }
     ensures still { OnOk result (O.faults out.new ≡ O.faults out.old) }
     ensures later { O.faults out.old ≤ O.faults out.new }
@@ -243,7 +244,7 @@ fn put_named<'x, O: Sink>(
     put_line(
         out,
         &[
-            Part::Text(b"reject "),
+            Part::Text(word),
             Part::Text(handler),
             Part::Text(b" "),
             Part::Text(kind),
@@ -252,34 +253,36 @@ fn put_named<'x, O: Sink>(
     )
 }
 
-/// Puts the line of a rejection by an invariant or a property.
+/// Puts a line of a word, a handler, and an invariant or a property.
 fn put_function<'x, O: Sink>(
     out: &mut O,
+    word: &'x [u8],
     handler: &'x [u8],
     kind: &'x [u8],
     named: &'x [Named],
     place: u32,
 ) -> Result<(), SinkFault>
-    ensures whole { OnOk result (O.shown out.new ≡ shown_with (O.shown out.old) (named_rejection handler.now kind.now (named_text (slice_get (map view_named named.now) place)))) }
-    ensures cut { OnErr result (ShowsPrefix (O.shown out.old) (O.shown out.new) (named_rejection handler.now kind.now (named_text (slice_get (map view_named named.now) place)))) }
+    ensures whole { OnOk result (O.shown out.new ≡ shown_with (O.shown out.old) (named_line word.now handler.now kind.now (named_text (slice_get (map view_named named.now) place)))) }
+    ensures cut { OnErr result (ShowsPrefix (O.shown out.old) (O.shown out.new) (named_line word.now handler.now kind.now (named_text (slice_get (map view_named named.now) place)))) }
     ensures failed { OnErr result (Rose (O.faults out.old) (O.faults out.new)) }
     ensures still { OnOk result (O.faults out.new ≡ O.faults out.old) }
     ensures later { O.faults out.old ≤ O.faults out.new }
     ensures fits { O.faults out.new < 2 ^ 64 }
 {
     let name = name_in(named, place);
-    put_named(out, handler, kind, name)
+    put_named(out, word, handler, kind, name)
 }
 
-/// Puts the line of a rejection by an invariant.
-fn put_invariant<O: Sink>(
+/// Puts a line of a word, a handler, and an invariant.
+fn put_invariant<'x, O: Sink>(
     out: &mut O,
-    spec: &Spec,
-    handler: &[u8],
+    spec: &'x Spec,
+    word: &'x [u8],
+    handler: &'x [u8],
     place: u32,
 ) -> Result<(), SinkFault>
-    ensures whole { OnOk result (O.shown out.new ≡ shown_with (O.shown out.old) (named_rejection handler.now (codes "invariant ") (named_text (slice_get (map view_named spec.now.invariants) place)))) }
-    ensures cut { OnErr result (ShowsPrefix (O.shown out.old) (O.shown out.new) (named_rejection handler.now (codes "invariant ") (named_text (slice_get (map view_named spec.now.invariants) place)))) }
+    ensures whole { OnOk result (O.shown out.new ≡ shown_with (O.shown out.old) (named_line word.now handler.now (codes "invariant ") (named_text (slice_get (map view_named spec.now.invariants) place)))) }
+    ensures cut { OnErr result (ShowsPrefix (O.shown out.old) (O.shown out.new) (named_line word.now handler.now (codes "invariant ") (named_text (slice_get (map view_named spec.now.invariants) place)))) }
     ensures failed { OnErr result (Rose (O.faults out.old) (O.faults out.new)) }
     ensures still { OnOk result (O.faults out.new ≡ O.faults out.old) }
     ensures later { O.faults out.old ≤ O.faults out.new }
@@ -287,6 +290,7 @@ fn put_invariant<O: Sink>(
 {
     put_function(
         out,
+        word,
         handler,
         b"invariant ",
         spec.invariants.as_slice(),
@@ -294,15 +298,16 @@ fn put_invariant<O: Sink>(
     )
 }
 
-/// Puts the line of a rejection by a property.
-fn put_property<O: Sink>(
+/// Puts a line of a word, a handler, and a property.
+fn put_property<'x, O: Sink>(
     out: &mut O,
-    spec: &Spec,
-    handler: &[u8],
+    spec: &'x Spec,
+    word: &'x [u8],
+    handler: &'x [u8],
     place: u32,
 ) -> Result<(), SinkFault>
-    ensures whole { OnOk result (O.shown out.new ≡ shown_with (O.shown out.old) (named_rejection handler.now (codes "property ") (named_text (slice_get (map view_named spec.now.properties) place)))) }
-    ensures cut { OnErr result (ShowsPrefix (O.shown out.old) (O.shown out.new) (named_rejection handler.now (codes "property ") (named_text (slice_get (map view_named spec.now.properties) place)))) }
+    ensures whole { OnOk result (O.shown out.new ≡ shown_with (O.shown out.old) (named_line word.now handler.now (codes "property ") (named_text (slice_get (map view_named spec.now.properties) place)))) }
+    ensures cut { OnErr result (ShowsPrefix (O.shown out.old) (O.shown out.new) (named_line word.now handler.now (codes "property ") (named_text (slice_get (map view_named spec.now.properties) place)))) }
     ensures failed { OnErr result (Rose (O.faults out.old) (O.faults out.new)) }
     ensures still { OnOk result (O.faults out.new ≡ O.faults out.old) }
     ensures later { O.faults out.old ≤ O.faults out.new }
@@ -310,11 +315,38 @@ fn put_property<O: Sink>(
 {
     put_function(
         out,
+        word,
         handler,
         b"property ",
         spec.properties.as_slice(),
         place,
     )
+}
+
+/// Puts a line of a word, the name of a handler, and an obligation.
+fn put_obligation<'x, O: Sink>(
+    out: &mut O,
+    spec: &'x Spec,
+    word: &'x [u8],
+    handler: &'x [u8],
+    obligation: Obligation,
+) -> Result<(), SinkFault>
+    ensures whole { OnOk result (O.shown out.new ≡ shown_with (O.shown out.old) (obligation_line word.now (view_spec spec.now) handler.now obligation)) }
+    ensures cut { OnErr result (ShowsPrefix (O.shown out.old) (O.shown out.new) (obligation_line word.now (view_spec spec.now) handler.now obligation)) }
+    ensures failed { OnErr result (Rose (O.faults out.old) (O.faults out.new)) }
+    ensures still { OnOk result (O.faults out.new ≡ O.faults out.old) }
+    ensures later { O.faults out.old ≤ O.faults out.new }
+    ensures fits { O.faults out.new < 2 ^ 64 }
+{
+    match obligation {
+        Obligation::Undefined => put_named(out, word, handler, b"undefined", b""),
+        Obligation::Invariant(place) => put_invariant(out, spec, word, handler, place),
+        Obligation::State(place) => {
+            put_named(out, word, handler, b"state ", field_in(spec, place))
+        }
+        Obligation::ResultValue => put_named(out, word, handler, b"result", b""),
+        Obligation::Property(place) => put_property(out, spec, word, handler, place),
+    }
 }
 
 /// Puts the line of a rejection.
@@ -331,14 +363,36 @@ fn put_rejection<'x, O: Sink>(
     ensures later { O.faults out.old ≤ O.faults out.new }
     ensures fits { O.faults out.new < 2 ^ 64 }
 {
-    let handler = transition.name.as_bytes();
-    match obligation {
-        Obligation::Undefined => put_named(out, handler, b"undefined", b""),
-        Obligation::Invariant(place) => put_invariant(out, spec, handler, place),
-        Obligation::State(place) => put_named(out, handler, b"state ", field_in(spec, place)),
-        Obligation::ResultValue => put_named(out, handler, b"result", b""),
-        Obligation::Property(place) => put_property(out, spec, handler, place),
-    }
+    put_obligation(
+        out,
+        spec,
+        b"reject ",
+        transition.name.as_bytes(),
+        obligation,
+    )
+}
+
+/// Puts the line of a handler that was not decided for this obligation.
+fn put_unknown<'x, O: Sink>(
+    out: &mut O,
+    spec: &'x Spec,
+    transition: &'x Transition,
+    obligation: Obligation,
+) -> Result<(), SinkFault>
+    ensures whole { OnOk result (O.shown out.new ≡ shown_with (O.shown out.old) (unknown_line (view_spec spec.now) (view_transition transition.now) obligation)) }
+    ensures cut { OnErr result (ShowsPrefix (O.shown out.old) (O.shown out.new) (unknown_line (view_spec spec.now) (view_transition transition.now) obligation)) }
+    ensures failed { OnErr result (Rose (O.faults out.old) (O.faults out.new)) }
+    ensures still { OnOk result (O.faults out.new ≡ O.faults out.old) }
+    ensures later { O.faults out.old ≤ O.faults out.new }
+    ensures fits { O.faults out.new < 2 ^ 64 }
+{
+    put_obligation(
+        out,
+        spec,
+        b"unknown ",
+        transition.name.as_bytes(),
+        obligation,
+    )
 }
 
 /// Puts the lines of a rejection: its line and its state block.
@@ -363,7 +417,7 @@ fn put_rejected<O: Sink>(
     put_case(out, kernel, spec, case)
 }
 
-/// Puts the lines of a handler's verdict: `accept`, `reject` with its state block, or `memory`. It takes no memory.
+/// Puts the lines of a handler's verdict: `accept`, `reject` with its state block, `unknown`, or `memory`. It takes no memory.
 pub fn put_verdict<O: Sink>(
     out: &mut O,
     kernel: &Kernel,
@@ -381,10 +435,11 @@ pub fn put_verdict<O: Sink>(
     ensures fits { O.faults out.new < 2 ^ 64 }
 {
     match verdict {
-        Verdict::Accepted => put_two(out, b"accept ", transition.name.as_bytes()),
+        Verdict::Accepted { .. } => put_two(out, b"accept ", transition.name.as_bytes()),
         Verdict::Rejected { obligation, case } => {
             put_rejected(out, kernel, spec, transition, *obligation, case)
         }
+        Verdict::Unknown { obligation, .. } => put_unknown(out, spec, transition, *obligation),
         Verdict::Memory => put_two(out, b"memory ", transition.name.as_bytes()),
     }
 }

@@ -1,24 +1,25 @@
 -- From what an answer means to the headline: the verdict at a handler's place is right for that handler.
 
-use Rattle.std.proofs.Common.{ℕ, zero, suc, ◌≡◌, inl, inr, List, [], ◌∷◌, ◌++◌, Option, None, Some, unwrap_or, slice_get, refl, ap, sym, ◌∙◌, subst}
+use Rattle.std.proofs.Common.{ℕ, zero, suc, ◌≡◌, ◌<◌, ◌≤◌, ◌^◌, inl, inr, List, [], ◌∷◌, ◌++◌, Option, None, Some, unwrap_or, slice_get, refl, ap, sym, ◌∙◌, subst, arith}
 use Rattle.std.specs.List.{AllZip}
 use Rattle.std.proofs.lemmas.List.{append_assoc, append-nil}
+use Rattle.std.proofs.lemmas.Fmt.{decimal_injective}
 use Rattle.hk_io.specs.Held.{Files, held_under}
 use Rattle.ir_ast.specs.Program.{ModuleView}
 use Rattle.ir_read.specs.Spelling.{IsModuleText}
 use Rattle.ir_layout.specs.Layouts.{LayoutView}
 use Rattle.spec_tree.specs.Plain.{Spec, Transition}
 use Rattle.hk_verdict.specs.declared.verdict.Verdict.{Verdict}
-use Rattle.hk_verdict.specs.declared.verdict.Verdict.TheVariants.{Accepted, Rejected}
+use Rattle.hk_verdict.specs.declared.verdict.Verdict.TheVariants.{Accepted, Rejected, Unknown}
 use Rattle.hk_verify.specs.declared.answer.Answer.{Answer}
 use Rattle.hk_verify.specs.declared.answer.TopFault.{TopFault}
-use Rattle.hk_verify.specs.declared.answer.TopFault.TheVariants.{Usage, Read, Long, Kernel as OfKernel, Spec as OfSpec, Cnf as OfCnf, Call as OfCall, Wide, Memory, Write}
+use Rattle.hk_verify.specs.declared.answer.TopFault.TheVariants.{Usage, Read, Long, Kernel as OfKernel, Spec as OfSpec, Cnf as OfCnf, Call as OfCall, Memory, Write}
 use Rattle.hk_verify.specs.Specifications.{IsSpecText}
-use Rattle.hk_verify.specs.Words.{IsVerify, HasNoForm}
+use Rattle.hk_verify.specs.Words.{IsVerify, AllowConflicts, most_conflicts}
 use Rattle.hk_verify.specs.Inputs.{Asked, ShelfView, IsLoaded, AreRead, asked, kernel_limit, spec_limit}
 use Rattle.hk_verify.specs.Verdicts.{AreCut, IsRightFor}
 use Rattle.hk_verify.specs.Answers.{SinkView, Means, ReportsWith}
-use Rattle.hk_verify.specs.Headline.{IsHandler, AcceptsCorrect, RejectsRefuted}
+use Rattle.hk_verify.specs.Headline.{IsHandler, AcceptsCorrect, RejectsRefuted, UnknownsSpent}
 
 -- What is there is one thing.
 pub some_is : {A : Type 0} {x y : A} → Some x ≡ Some y → x ≡ y
@@ -46,37 +47,36 @@ nothing_there [] h x empty there = cc
 nothing_there (a ∷ xs) h x empty there = cc
 
 -- Verdicts that were reported are right.
-of_cut : (m : ModuleView) (spec : Spec) (verdicts : List Verdict) (shown shown' : Option (List ℕ)) (h : ℕ) (t : Transition) (v : Verdict)
-    → AreCut m spec verdicts shown shown' → slice_get spec.transitions h ≡ Some t → slice_get verdicts h ≡ Some v → IsRightFor m spec t v
-of_cut m spec verdicts shown shown' h t v cut there here =
+of_cut : (budget : ℕ) (m : ModuleView) (spec : Spec) (verdicts : List Verdict) (shown shown' : Option (List ℕ)) (h : ℕ) (t : Transition) (v : Verdict)
+    → AreCut budget m spec verdicts shown shown' → slice_get spec.transitions h ≡ Some t → slice_get verdicts h ≡ Some v → IsRightFor budget m spec t v
+of_cut budget m spec verdicts shown shown' h t v cut there here =
     let parts : (cut.before ++ cut.failed ∷ []) ++ cut.behind ≡ spec.transitions = append_assoc cut.before (cut.failed ∷ []) cut.behind ∙ sym cut.handlers in
-    at_place (IsRightFor m spec) (cut.before ++ cut.failed ∷ []) cut.behind (cut.front ++ cut.last ∷ []) h t v
-    (all_and_last (IsRightFor m spec) cut.before cut.front cut.failed cut.last cut.right cut.right_last)
+    at_place (IsRightFor budget m spec) (cut.before ++ cut.failed ∷ []) cut.behind (cut.front ++ cut.last ∷ []) h t v
+    (all_and_last (IsRightFor budget m spec) cut.before cut.front cut.failed cut.last cut.right cut.right_last)
     (subst (λ ts. slice_get ts h ≡ Some t) (sym parts) there)
     (subst (λ vs. slice_get vs h ≡ Some v) cut.parts here)
 
-of_report : (sink : SinkView) (m : ModuleView) (spec : Spec) (answer : Answer) (fault : Option TopFault) (h : ℕ) (t : Transition) (v : Verdict)
-    → ReportsWith sink m spec answer fault → slice_get spec.transitions h ≡ Some t → slice_get answer.verdicts h ≡ Some v → IsRightFor m spec t v
-of_report sink m spec answer None h t v whole there here =
-    at_place (IsRightFor m spec) spec.transitions [] answer.verdicts h t v whole.right (subst (λ ts. slice_get ts h ≡ Some t) (sym (append-nil spec.transitions)) there) here
-of_report sink m spec answer (Some Write) h t v cut there here =
-    elim cut.shown as (λ _. IsRightFor m spec t v) [ inl opening ↦ absurd (nothing_there answer.verdicts h v opening.none here) | inr last ↦ of_cut m spec answer.verdicts _ _ h t v last there here ]
-of_report sink m spec answer (Some Usage) h t v reports there here = absurd reports
-of_report sink m spec answer (Some (Read w)) h t v reports there here = absurd reports
-of_report sink m spec answer (Some (Long w)) h t v reports there here = absurd reports
-of_report sink m spec answer (Some (OfKernel f)) h t v reports there here = absurd reports
-of_report sink m spec answer (Some (OfSpec f)) h t v reports there here = absurd reports
-of_report sink m spec answer (Some (OfCnf f)) h t v reports there here = absurd reports
-of_report sink m spec answer (Some (OfCall f)) h t v reports there here = absurd reports
-of_report sink m spec answer (Some (Wide w)) h t v reports there here = absurd reports
-of_report sink m spec answer (Some Memory) h t v reports there here = absurd reports
+of_report : (sink : SinkView) (budget : ℕ) (m : ModuleView) (spec : Spec) (answer : Answer) (fault : Option TopFault) (h : ℕ) (t : Transition) (v : Verdict)
+    → ReportsWith sink budget m spec answer fault → slice_get spec.transitions h ≡ Some t → slice_get answer.verdicts h ≡ Some v → IsRightFor budget m spec t v
+of_report sink budget m spec answer None h t v whole there here =
+    at_place (IsRightFor budget m spec) spec.transitions [] answer.verdicts h t v whole.right (subst (λ ts. slice_get ts h ≡ Some t) (sym (append-nil spec.transitions)) there) here
+of_report sink budget m spec answer (Some Write) h t v cut there here =
+    elim cut.shown as (λ _. IsRightFor budget m spec t v) [ inl opening ↦ absurd (nothing_there answer.verdicts h v opening.none here) | inr last ↦ of_cut budget m spec answer.verdicts _ _ h t v last there here ]
+of_report sink budget m spec answer (Some Usage) h t v reports there here = absurd reports
+of_report sink budget m spec answer (Some (Read w)) h t v reports there here = absurd reports
+of_report sink budget m spec answer (Some (Long w)) h t v reports there here = absurd reports
+of_report sink budget m spec answer (Some (OfKernel f)) h t v reports there here = absurd reports
+of_report sink budget m spec answer (Some (OfSpec f)) h t v reports there here = absurd reports
+of_report sink budget m spec answer (Some (OfCnf f)) h t v reports there here = absurd reports
+of_report sink budget m spec answer (Some (OfCall f)) h t v reports there here = absurd reports
+of_report sink budget m spec answer (Some Memory) h t v reports there here = absurd reports
 
 -- The text that was loaded is the one that is held.
 pub same_text : (held : Option Files) (file : Asked) (text loaded : List ℕ) → IsLoaded held file loaded → held_under held file.name ≡ Some text → loaded ≡ text
 same_text None file text loaded load there = cc
 same_text (Some files) file text loaded load there = some_is (sym (load.told refl) ∙ there)
 
--- Three words name two files.
+-- The words name two files and options.
 second : List (List ℕ) → List ℕ
 second (a ∷ b ∷ words) = b
 second (a ∷ []) = []
@@ -88,21 +88,47 @@ third (a ∷ b ∷ []) = []
 third (a ∷ []) = []
 third [] = []
 
-pub same_second : (words : List (List ℕ)) (a b c d e f : List ℕ) → words ≡ a ∷ b ∷ c ∷ [] → words ≡ d ∷ e ∷ f ∷ [] → b ≡ e
-unfolding second
-same_second words a b c d e f one other = ap second (sym one ∙ other)
+behind : List (List ℕ) → List (List ℕ)
+behind (a ∷ b ∷ c ∷ words) = words
+behind (a ∷ b ∷ []) = []
+behind (a ∷ []) = []
+behind [] = []
 
-pub same_third : (words : List (List ℕ)) (a b c d e f : List ℕ) → words ≡ a ∷ b ∷ c ∷ [] → words ≡ d ∷ e ∷ f ∷ [] → c ≡ f
+pub same_kernel : (words : List (List ℕ)) (k s k' s' : List ℕ) (n n' : ℕ) → IsVerify words k s n → IsVerify words k' s' n' → k ≡ k'
+unfolding second
+same_kernel words k s k' s' n n' one other = ap second (sym one.form ∙ other.form)
+
+pub same_spec : (words : List (List ℕ)) (k s k' s' : List ℕ) (n n' : ℕ) → IsVerify words k s n → IsVerify words k' s' n' → s ≡ s'
 unfolding third
-same_third words a b c d e f one other = ap third (sym one ∙ other)
+same_spec words k s k' s' n n' one other = ap third (sym one.form ∙ other.form)
+
+-- Options allow one number of conflicts.
+small : (n : ℕ) → n ≤ most_conflicts → n < 2 ^ 64
+small n most = omega (arith, most)
+
+none_named : {A : Type 0} {x : A} {xs : List A} → [] ≡ x ∷ xs → ⊥
+none_named same = cc
+
+one_number : (options : List (List ℕ)) (n n' : ℕ) → AllowConflicts options n → AllowConflicts options n' → n ≡ n'
+unfolding second
+one_number options n n' (inl none) (inl none') = none.1 ∙ sym none'.1
+one_number options n n' (inl none) (inr named) = absurd (none_named (sym none.0 ∙ named.form))
+one_number options n n' (inr named) (inl none) = absurd (none_named (sym none.0 ∙ named.form))
+one_number options n n' (inr named) (inr named') = decimal_injective n n' (small n named.most) (small n' named'.most) (ap second (sym named.form ∙ named'.form))
+
+pub same_conflicts : (words : List (List ℕ)) (k s k' s' : List ℕ) (n n' : ℕ) → IsVerify words k s n → IsVerify words k' s' n' → n ≡ n'
+unfolding behind
+same_conflicts words k s k' s' n n' one other =
+    one_number one.options n n' one.allowed (subst (λ options. AllowConflicts options n') (ap behind (sym other.form ∙ one.form)) other.allowed)
 
 -- The kernel and the specification that were read are those that the held texts spell.
-of_read : (held : Option Files) (words : List (List ℕ)) (kernel_name spec_name : List ℕ) (m other : ModuleView) (layout : LayoutView) (spec other_spec : Spec) (h : ℕ) (t : Transition) (v : Verdict)
-    → IsVerify words kernel_name spec_name → AreRead held kernel_name spec_name other other_spec → IsHandler held words m layout spec h t
-    → (slice_get other_spec.transitions h ≡ Some t → IsRightFor other other_spec t v) → IsRightFor m spec t v
-of_read held words kernel_name spec_name m other layout spec other_spec h t v form read handler right =
-    let same_k : handler.kernel_name ≡ kernel_name = same_second words _ _ _ _ _ _ handler.form form in
-    let same_s : handler.spec_name ≡ spec_name = same_third words _ _ _ _ _ _ handler.form form in
+of_read : (held : Option Files) (words : List (List ℕ)) (kernel_name spec_name : List ℕ) (conflicts budget : ℕ) (m other : ModuleView) (layout : LayoutView) (spec other_spec : Spec) (h : ℕ) (t : Transition) (v : Verdict)
+    → IsVerify words kernel_name spec_name conflicts → AreRead held kernel_name spec_name other other_spec → IsHandler held words budget m layout spec h t
+    → (slice_get other_spec.transitions h ≡ Some t → IsRightFor conflicts other other_spec t v) → IsRightFor budget m spec t v
+of_read held words kernel_name spec_name conflicts budget m other layout spec other_spec h t v form read handler right =
+    let same_k : handler.kernel_name ≡ kernel_name = same_kernel words _ _ _ _ _ _ handler.form form in
+    let same_s : handler.spec_name ≡ spec_name = same_spec words _ _ _ _ _ _ handler.form form in
+    let same_n : conflicts ≡ budget = same_conflicts words _ _ _ _ _ _ form handler.form in
     let kernel_text : read.kernel_text ≡ handler.kernel_text = same_text held (asked 1 kernel_name kernel_limit) handler.kernel_text read.kernel_text read.loaded.0
     (subst (λ n. held_under held n ≡ Some handler.kernel_text) same_k handler.kernel_held) in
     let spec_text : read.spec_text ≡ handler.spec_text = same_text held (asked 2 spec_name spec_limit) handler.spec_text read.spec_text read.loaded.1.0
@@ -111,38 +137,38 @@ of_read held words kernel_name spec_name m other layout spec other_spec h t v fo
     let is_spec : spec ≡ other_spec = read.the_spec.only spec (subst (λ k. IsSpecText k read.spec_text spec) is_kernel
     (subst (λ text. IsSpecText m text spec) (sym spec_text) handler.spec_spelled)) in
     let there = subst (λ s. slice_get s.transitions h ≡ Some t) is_spec handler.there in
-    subst (λ k. IsRightFor k spec t v) (sym is_kernel) (subst (λ s. IsRightFor other s t v) (sym is_spec) (right there))
+    subst (λ n. IsRightFor n m spec t v) same_n (subst (λ k. IsRightFor conflicts k spec t v) (sym is_kernel) (subst (λ s. IsRightFor conflicts other s t v) (sym is_spec) (right there)))
 
 -- The verdict at a handler's place is right.
-right_at : (shelf : ShelfView) (sink : SinkView) (words : List (List ℕ)) (kernel_name spec_name : List ℕ) (answer : Answer) (m : ModuleView) (layout : LayoutView) (spec : Spec) (h : ℕ) (t : Transition) (v : Verdict)
-    → IsVerify words kernel_name spec_name → Means shelf sink words kernel_name spec_name answer → IsHandler shelf.held words m layout spec h t
-    → slice_get answer.verdicts h ≡ Some v → IsRightFor m spec t v
-right_at shelf sink words kernel_name spec_name answer m layout spec h t v form (inl reported) handler here =
-    of_read shelf.held words kernel_name spec_name m reported.module_ layout spec reported.spec h t v form reported.read handler
-    (λ there. of_report sink reported.module_ reported.spec answer answer.fault h t v reported.reports there here)
-right_at shelf sink words kernel_name spec_name answer m layout spec h t v form (inr ended) handler here =
+right_at : (shelf : ShelfView) (sink : SinkView) (words : List (List ℕ)) (kernel_name spec_name : List ℕ) (conflicts budget : ℕ) (answer : Answer) (m : ModuleView) (layout : LayoutView) (spec : Spec) (h : ℕ) (t : Transition) (v : Verdict)
+    → IsVerify words kernel_name spec_name conflicts → Means shelf sink words kernel_name spec_name conflicts answer → IsHandler shelf.held words budget m layout spec h t
+    → slice_get answer.verdicts h ≡ Some v → IsRightFor budget m spec t v
+right_at shelf sink words kernel_name spec_name conflicts budget answer m layout spec h t v form (inl reported) handler here =
+    of_read shelf.held words kernel_name spec_name conflicts budget m reported.module_ layout spec reported.spec h t v form reported.read handler
+    (λ there. of_report sink conflicts reported.module_ reported.spec answer answer.fault h t v reported.reports there here)
+right_at shelf sink words kernel_name spec_name conflicts budget answer m layout spec h t v form (inr ended) handler here =
     absurd (nothing_there answer.verdicts h v ended.refused.verdicts here)
 
-pub accepts : (shelf : ShelfView) (sink : SinkView) (words : List (List ℕ)) (kernel_name spec_name : List ℕ) (answer : Answer)
-    → IsVerify words kernel_name spec_name → Means shelf sink words kernel_name spec_name answer → AcceptsCorrect shelf.held words answer
-accepts shelf sink words kernel_name spec_name answer form means m layout spec h t handler here =
-    right_at shelf sink words kernel_name spec_name answer m layout spec h t Accepted form means handler here layout handler.laid
+pub accepts : (shelf : ShelfView) (sink : SinkView) (words : List (List ℕ)) (kernel_name spec_name : List ℕ) (conflicts : ℕ) (answer : Answer)
+    → IsVerify words kernel_name spec_name conflicts → Means shelf sink words kernel_name spec_name conflicts answer → AcceptsCorrect shelf.held words answer
+accepts shelf sink words kernel_name spec_name conflicts answer form means budget m layout spec h t proofs handler here =
+    let right = right_at shelf sink words kernel_name spec_name conflicts budget answer m layout spec h t (Accepted proofs) form means handler here layout handler.laid in
+    right.correct
 
-pub rejects : (shelf : ShelfView) (sink : SinkView) (words : List (List ℕ)) (kernel_name spec_name : List ℕ) (answer : Answer)
-    → IsVerify words kernel_name spec_name → Means shelf sink words kernel_name spec_name answer → RejectsRefuted shelf.held words answer
-rejects shelf sink words kernel_name spec_name answer form means m layout spec h t o c handler here =
-    right_at shelf sink words kernel_name spec_name answer m layout spec h t (Rejected o c) form means handler here layout handler.laid
+pub rejects : (shelf : ShelfView) (sink : SinkView) (words : List (List ℕ)) (kernel_name spec_name : List ℕ) (conflicts : ℕ) (answer : Answer)
+    → IsVerify words kernel_name spec_name conflicts → Means shelf sink words kernel_name spec_name conflicts answer → RejectsRefuted shelf.held words answer
+rejects shelf sink words kernel_name spec_name conflicts answer form means budget m layout spec h t o c handler here =
+    right_at shelf sink words kernel_name spec_name conflicts budget answer m layout spec h t (Rejected o c) form means handler here layout handler.laid
 
--- Words without a form have no handler.
-pub accepts_none : (held : Option Files) (words : List (List ℕ)) (answer : Answer) → HasNoForm words → AcceptsCorrect held words answer
-accepts_none held words answer none m layout spec h t handler here = absurd (none.no_verify handler.kernel_name handler.spec_name handler.form)
+pub spends : (shelf : ShelfView) (sink : SinkView) (words : List (List ℕ)) (kernel_name spec_name : List ℕ) (conflicts : ℕ) (answer : Answer)
+    → IsVerify words kernel_name spec_name conflicts → Means shelf sink words kernel_name spec_name conflicts answer → UnknownsSpent shelf.held words answer
+spends shelf sink words kernel_name spec_name conflicts answer form means budget m layout spec h t o instances clauses log handler here =
+    right_at shelf sink words kernel_name spec_name conflicts budget answer m layout spec h t (Unknown o instances clauses log) form means handler here layout handler.laid
 
-pub rejects_none : (held : Option Files) (words : List (List ℕ)) (answer : Answer) → HasNoForm words → RejectsRefuted held words answer
-rejects_none held words answer none m layout spec h t o c handler here = absurd (none.no_verify handler.kernel_name handler.spec_name handler.form)
-
--- What an answer means for the names of the words it means for any names that the words give.
-pub means_for : (shelf : ShelfView) (sink : SinkView) (words : List (List ℕ)) (k s k' s' : List ℕ) (answer : Answer)
-    → IsVerify words k s → IsVerify words k' s' → Means shelf sink words k s answer → Means shelf sink words k' s' answer
-means_for shelf sink words k s k' s' answer form form' means =
-    subst (λ name. Means shelf sink words k' name answer) (same_third words _ _ _ _ _ _ form form')
-    (subst (λ name. Means shelf sink words name s answer) (same_second words _ _ _ _ _ _ form form') means)
+-- What an answer means for the names and the conflicts of the words it means for any that the words give.
+pub means_for : (shelf : ShelfView) (sink : SinkView) (words : List (List ℕ)) (k s k' s' : List ℕ) (n n' : ℕ) (answer : Answer)
+    → IsVerify words k s n → IsVerify words k' s' n' → Means shelf sink words k s n answer → Means shelf sink words k' s' n' answer
+means_for shelf sink words k s k' s' n n' answer form form' means =
+    subst (λ number. Means shelf sink words k' s' number answer) (same_conflicts words _ _ _ _ _ _ form form')
+    (subst (λ name. Means shelf sink words k' name n answer) (same_spec words _ _ _ _ _ _ form form')
+    (subst (λ name. Means shelf sink words name s n answer) (same_kernel words _ _ _ _ _ _ form form') means))

@@ -3,7 +3,6 @@ mod Forms
 mod Loading
 mod NumberWords
 mod Pushes
-mod Reported
 mod Shapes
 mod SpecReading
 mod Whole

@@ -1,15 +1,15 @@
 -- Words that are the decimal digits of numbers.
 
-use Rattle.std.proofs.Common.{ℕ, zero, suc, ◌≡◌, ◌<◌, ◌≤◌, ◌+◌, ◌^◌, ◌⊎◌, inl, inr, Bool, true, false, Option, Some, None, Result, Ok, Err, List, [], ◌∷◌, ◌++◌, length, map, take, get_or, refl, sym, ◌∙◌, ap, subst, arith}
+use Rattle.std.proofs.Common.{ℕ, zero, suc, ◌≡◌, ◌<◌, ◌≤◌, ◌+◌, ◌^◌, Bool, true, false, Option, Some, None, Result, Ok, Err, List, [], ◌∷◌, ◌++◌, length, map, take, get_or, refl, sym, ◌∙◌, ap, subst, arith}
 use Rattle.std.specs.Prelude.{All, bytes_eq, slice_index_or, String, string_bytes, IfSome, IfNone, is_some, codes}
 use Rattle.std.specs.declared.alloc.Global.{Global}
 use Rattle.std.specs.Fmt.{decimal}
 use Rattle.std.specs.Str.Parse.{ParsesUnsigned}
-use Rattle.std.proofs.lemmas.Fmt.{parse-decimal}
+use Rattle.std.proofs.lemmas.Fmt.{decimal_injective, parse-decimal}
 use Rattle.std.proofs.lemmas.Slice.Eq.{bytes_eq-Decides}
 use Rattle.std.proofs.lemmas.List.{take_more, take_all, length-map, get_or-map, map-append}
 use Rattle.std.proofs.lemmas.List.Elements.{All-append}
-use Rattle.hk_verify.specs.Words.{AreNumbers, HasNoForm, IsRun, bytes_of}
+use Rattle.hk_verify.specs.Words.{AreNumbers, HasNoForm, bytes_of, most_conflicts}
 
 -- What is parsed of the digits of a number.
 pub parsed : {E : Type 0} (word : List ℕ) (r : Result ℕ E) (n : ℕ) → ParsesUnsigned 64 10 word r → n < 2 ^ 64 → word ≡ decimal n → r ≡ Ok n
@@ -31,6 +31,10 @@ not_parsed word r e h err n small spelled = clash (sym (parsed word r n h small 
   where
     clash : {E : Type 0} {n : ℕ} {e : E} → Ok n ≡ Err e → ⊥
     clash e = cc
+
+-- A word of conflicts has one number.
+pub conflicts_are : (word : List ℕ) (m n : ℕ) → word ≡ decimal m → m < 2 ^ 64 → n ≤ most_conflicts → word ≡ decimal n → m ≡ n
+conflicts_are word m n is small most also = decimal_injective m n small (omega (arith, most)) (sym is ∙ also)
 
 -- The word at a place of the words.
 pub word_at : (words : List (String Global)) (i : ℕ) (word : String Global) (numbers : List ℕ) → i < length words → word ≡ slice_index_or words i word → bytes_of words ≡ map decimal numbers

@@ -45,30 +45,30 @@ texts-snoc R f [] after (b ∷ ys) x y all = absurd all
 texts-snoc R f (a ∷ before) after [] x y all = absurd all
 
 -- The verdicts of the handlers so far are right, and their lines are shown.
-pub record SoFar (m : ModuleView) (spec : Spec) (before : List Transition) (verdicts : List Verdict) (shown shown' : Option (List ℕ)) : Type 0 where
-  pub right : AreRight m spec before verdicts
+pub record SoFar (budget : ℕ) (m : ModuleView) (spec : Spec) (before : List Transition) (verdicts : List Verdict) (shown shown' : Option (List ℕ)) : Type 0 where
+  pub right : AreRight budget m spec before verdicts
   pub says : shown' ≡ shown_with shown (verdicts_text m spec verdicts)
 
 -- One more handler.
-pub goes_on : (m : ModuleView) (spec : Spec) (before after : List Transition) (t : Transition) (old new : List Verdict) (shown now next : Option (List ℕ))
-    → spec.transitions ≡ before ++ t ∷ after → SoFar m spec before old shown now → Adds m spec t old new now next
-    → SoFar m spec (before ++ t ∷ []) new shown next
-goes_on m spec before after t old new shown now next parts so_far adds =
+pub goes_on : (budget : ℕ) (m : ModuleView) (spec : Spec) (before after : List Transition) (t : Transition) (old new : List Verdict) (shown now next : Option (List ℕ))
+    → spec.transitions ≡ before ++ t ∷ after → SoFar budget m spec before old shown now → Adds budget m spec t old new now next
+    → SoFar budget m spec (before ++ t ∷ []) new shown next
+goes_on budget m spec before after t old new shown now next parts so_far adds =
     let f : Transition × Verdict → List ℕ = λ v. verdict_text m spec v.0 v.1 in
     let more : flat_map f (zip spec.transitions (old ++ adds.verdict ∷ [])) ≡ flat_map f (zip spec.transitions old) ++ f (t, adds.verdict) =
     subst (λ ts. flat_map f (zip ts (old ++ adds.verdict ∷ [])) ≡ flat_map f (zip ts old) ++ f (t, adds.verdict)) (sym parts)
-    (texts-snoc (IsRightFor m spec) f before after old t adds.verdict so_far.right) in
+    (texts-snoc (IsRightFor budget m spec) f before after old t adds.verdict so_far.right) in
     record {
-      right = subst (AreRight m spec (before ++ t ∷ [])) (sym adds.added) (AllZip-snoc (IsRightFor m spec) before old t adds.verdict so_far.right adds.right);
+      right = subst (AreRight budget m spec (before ++ t ∷ [])) (sym adds.added) (AllZip-snoc (IsRightFor budget m spec) before old t adds.verdict so_far.right adds.right);
       says = adds.says ∙ ap (λ s. shown_with s (verdict_text m spec t adds.verdict)) so_far.says ∙ shown_with-append shown _ _
           ∙ ap (shown_with shown) (sym more) ∙ ap (λ vs. shown_with shown (verdicts_text m spec vs)) (sym adds.added);
     }
 
 -- The lines of one more handler are cut.
-pub is_cut : (m : ModuleView) (spec : Spec) (before after : List Transition) (t : Transition) (old new : List Verdict) (shown now next : Option (List ℕ))
-    → spec.transitions ≡ before ++ t ∷ after → SoFar m spec before old shown now → AddsCut m spec t old new now next
-    → AreCut m spec new shown next
-is_cut m spec before after t old new shown now next parts so_far adds = record {
+pub is_cut : (budget : ℕ) (m : ModuleView) (spec : Spec) (before after : List Transition) (t : Transition) (old new : List Verdict) (shown now next : Option (List ℕ))
+    → spec.transitions ≡ before ++ t ∷ after → SoFar budget m spec before old shown now → AddsCut budget m spec t old new now next
+    → AreCut budget m spec new shown next
+is_cut budget m spec before after t old new shown now next parts so_far adds = record {
   before = before;
   failed = t;
   behind = after;
@@ -107,23 +107,23 @@ step_at ts i t within there =
     take_more plain i (view_transition t) (omega (arith, within, long)) ∙ ap (λ u. take i plain ++ u ∷ []) (sym same)
 
 -- One more handler, by its place in the list.
-pub goes_on_at : (m : ModuleView) (spec : Spec) (ts : List Handler) (i : ℕ) (t : Handler) (old new : List Verdict) (shown now next : Option (List ℕ))
-    → map view_transition ts ≡ spec.transitions → i < length ts → t ≡ slice_index_or ts i t → SoFar m spec (take i (map view_transition ts)) old shown now
-    → Adds m spec (view_transition t) old new now next → SoFar m spec (take (i + 1) (map view_transition ts)) new shown next
-goes_on_at m spec ts i t old new shown now next same within there so_far adds =
+pub goes_on_at : (budget : ℕ) (m : ModuleView) (spec : Spec) (ts : List Handler) (i : ℕ) (t : Handler) (old new : List Verdict) (shown now next : Option (List ℕ))
+    → map view_transition ts ≡ spec.transitions → i < length ts → t ≡ slice_index_or ts i t → SoFar budget m spec (take i (map view_transition ts)) old shown now
+    → Adds budget m spec (view_transition t) old new now next → SoFar budget m spec (take (i + 1) (map view_transition ts)) new shown next
+goes_on_at budget m spec ts i t old new shown now next same within there so_far adds =
     let plain = map view_transition ts in
-    subst (λ before. SoFar m spec before new shown next) (sym (step_at ts i t within there))
-    (goes_on m spec (take i plain) (drop (i + 1) plain) (view_transition t) old new shown now next (sym same ∙ split_at ts i t within there) so_far adds)
+    subst (λ before. SoFar budget m spec before new shown next) (sym (step_at ts i t within there))
+    (goes_on budget m spec (take i plain) (drop (i + 1) plain) (view_transition t) old new shown now next (sym same ∙ split_at ts i t within there) so_far adds)
 
-pub is_cut_at : (m : ModuleView) (spec : Spec) (ts : List Handler) (i : ℕ) (t : Handler) (old new : List Verdict) (shown now next : Option (List ℕ))
-    → map view_transition ts ≡ spec.transitions → i < length ts → t ≡ slice_index_or ts i t → SoFar m spec (take i (map view_transition ts)) old shown now
-    → AddsCut m spec (view_transition t) old new now next → AreCut m spec new shown next
-is_cut_at m spec ts i t old new shown now next same within there so_far adds =
+pub is_cut_at : (budget : ℕ) (m : ModuleView) (spec : Spec) (ts : List Handler) (i : ℕ) (t : Handler) (old new : List Verdict) (shown now next : Option (List ℕ))
+    → map view_transition ts ≡ spec.transitions → i < length ts → t ≡ slice_index_or ts i t → SoFar budget m spec (take i (map view_transition ts)) old shown now
+    → AddsCut budget m spec (view_transition t) old new now next → AreCut budget m spec new shown next
+is_cut_at budget m spec ts i t old new shown now next same within there so_far adds =
     let plain = map view_transition ts in
-    is_cut m spec (take i plain) (drop (i + 1) plain) (view_transition t) old new shown now next (sym same ∙ split_at ts i t within there) so_far adds
+    is_cut budget m spec (take i plain) (drop (i + 1) plain) (view_transition t) old new shown now next (sym same ∙ split_at ts i t within there) so_far adds
 
 -- No handler yet.
-pub none_yet : (m : ModuleView) (spec : Spec) (verdicts : List Verdict) (shown : Option (List ℕ)) → verdicts ≡ [] → SoFar m spec [] verdicts shown shown
-none_yet m spec verdicts shown empty =
-    let at_none : SoFar m spec [] [] shown shown = record { right = tt; says = shown_with-nothing shown ∙ ap (shown_with shown) (sym (ap (flat_map (λ v. verdict_text m spec v.0 v.1)) (zip-nothing spec.transitions))) } in
-    subst (λ vs. SoFar m spec [] vs shown shown) (sym empty) at_none
+pub none_yet : (budget : ℕ) (m : ModuleView) (spec : Spec) (verdicts : List Verdict) (shown : Option (List ℕ)) → verdicts ≡ [] → SoFar budget m spec [] verdicts shown shown
+none_yet budget m spec verdicts shown empty =
+    let at_none : SoFar budget m spec [] [] shown shown = record { right = tt; says = shown_with-nothing shown ∙ ap (shown_with shown) (sym (ap (flat_map (λ v. verdict_text m spec v.0 v.1)) (zip-nothing spec.transitions))) } in
+    subst (λ vs. SoFar budget m spec [] vs shown shown) (sym empty) at_none

@@ -8,7 +8,7 @@ use Rattle.spec_tree.specs.Plain.{Spec}
 use Rattle.hk_verdict.specs.declared.verdict.Verdict.{Verdict}
 use Rattle.hk_verdict.specs.declared.verdict.InitVerdict.{InitVerdict}
 use Rattle.hk_verdict.specs.Report.{init_text, report_text, verdicts_text}
-use Rattle.hk_try.specs.Opening.{IsOpening}
+use Rattle.hk_decide.specs.Opening.{IsOpening}
 use Rattle.hk_verify.specs.declared.answer.Answer.{Answer}
 use Rattle.hk_verify.specs.Answers.{SinkView, IsWhole}
 use Rattle.hk_verify.specs.Lines.{verdict_status}
@@ -20,12 +20,12 @@ pub where_ok : {T E : Type 0} (r : Result T E) (P : Type 0) → is_err r ≡ fal
 where_ok (Ok x) P fine p = p
 where_ok (Err e) P fine p = cc
 
-pub whole_report : (sink : SinkView) (m : ModuleView) (spec : Spec) (init : InitVerdict) (opened : Option (List ℕ)) (verdicts : List Verdict) (answer : Answer)
-    → IsOpening m spec init → opened ≡ shown_with sink.shown (init_text spec init) → AreShown m spec verdicts opened sink.shown'
-    → sink.faults' ≡ sink.faults → answer.init ≡ init → answer.verdicts ≡ verdicts → answer.status ≡ verdict_status init verdicts → IsWhole sink m spec answer
-whole_report sink m spec init opened verdicts answer holds opening shown still is same status = record {
+pub whole_report : (sink : SinkView) (budget : ℕ) (m : ModuleView) (spec : Spec) (init : InitVerdict) (opened : Option (List ℕ)) (verdicts : List Verdict) (answer : Answer)
+    → IsOpening m spec init → opened ≡ shown_with sink.shown (init_text spec init) → AreShown budget m spec verdicts opened sink.shown'
+    → sink.faults' ≡ sink.faults → answer.init ≡ init → answer.verdicts ≡ verdicts → answer.status ≡ verdict_status init verdicts → IsWhole sink budget m spec answer
+whole_report sink budget m spec init opened verdicts answer holds opening shown still is same status = record {
   opening = subst (IsOpening m spec) (sym is) holds;
-  right = subst (AreRight m spec spec.transitions) (sym same) shown.right;
+  right = subst (AreRight budget m spec spec.transitions) (sym same) shown.right;
   says = shown.says ∙ ap (λ s. shown_with s (verdicts_text m spec verdicts)) opening
       ∙ shown_with-append sink.shown (init_text spec init) (verdicts_text m spec verdicts)
       ∙ ap (λ vs. shown_with sink.shown (report_text m spec init vs)) (sym same)

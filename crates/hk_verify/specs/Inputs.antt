@@ -1,22 +1,20 @@
 -- What was read: the texts that were loaded, the kernel and the specification that they spell, and why there is none.
 
-use Rattle.std.specs.Prelude.{ℕ, ◌<◌, ◌≤◌, ◌≡◌, List, [], ◌∷◌, ◌++◌, Option, Some, IsSome, IsSomeAnd, ⊤, length, slice_get, Result, Ok, Err}
+use Rattle.std.specs.Prelude.{ℕ, ◌<◌, ◌≤◌, ◌≡◌, List, [], ◌∷◌, ◌++◌, Option, Some, IsSome, IsSomeAnd, ⊤, length, Result, Ok, Err}
 use Rattle.std.specs.List.{AllZip}
 use Rattle.hk_io.specs.Faults.{Rose}
 use Rattle.hk_io.specs.Held.{Files, held_under}
 use Rattle.ir_ast.specs.Program.{ModuleView}
 use Rattle.ir_ast.specs.ProgramView.{view_module}
 use Rattle.ir_ast.specs.declared.fault.KernelFault.{KernelFault}
-use Rattle.ir_layout.specs.Layouts.{LayoutView, IsLayoutOf}
 use Rattle.spec_ast.specs.declared.fault.SpecFault.{SpecFault}
-use Rattle.spec_tree.specs.Plain.{Spec, Transition}
+use Rattle.spec_tree.specs.Plain.{Spec}
 use Rattle.spec_tree.specs.View.{view_spec}
-use Rattle.hk_try.specs.Widths.{IsFirstWide}
 use Rattle.hk_verify.specs.Whole.{IsWhole, RefusesWhole}
 use Rattle.hk_verify.specs.Specifications.{IsTheSpec, RefusesSpecText}
 use Rattle.hk_verify.specs.declared.inputs.Inputs.{Inputs}
 use Rattle.hk_verify.specs.declared.answer.TopFault.{TopFault}
-use Rattle.hk_verify.specs.declared.answer.TopFault.TheVariants.{Usage, Read, Long, Kernel as OfKernel, Spec as OfSpec, Cnf as OfCnf, Call as OfCall, Wide, Memory, Write}
+use Rattle.hk_verify.specs.declared.answer.TopFault.TheVariants.{Usage, Read, Long, Kernel as OfKernel, Spec as OfSpec, Cnf as OfCnf, Call as OfCall, Memory, Write}
 
 -- The most bytes of a kernel text: 16 MiB.
 abbrev pub kernel_limit : ℕ
@@ -48,7 +46,7 @@ pub record Asked : Type 0 where
 abbrev pub asked : ℕ → List ℕ → ℕ → Asked
 asked word name limit = record { word = word; name = name; limit = limit }
 
--- The files of `verify KERNEL SPEC`, in the order in which they are loaded.
+-- The files of `verify KERNEL SPEC ..`, in the order in which they are loaded.
 abbrev pub verify_files : List ℕ → List ℕ → List Asked
 verify_files kernel spec = asked 1 kernel kernel_limit ∷ asked 2 spec spec_limit ∷ []
 
@@ -79,7 +77,6 @@ IsLoadFault shelf file (OfKernel f) = ⊥
 IsLoadFault shelf file (OfSpec f) = ⊥
 IsLoadFault shelf file (OfCnf f) = ⊥
 IsLoadFault shelf file (OfCall f) = ⊥
-IsLoadFault shelf file (Wide h) = ⊥
 IsLoadFault shelf file Write = ⊥
 
 -- Why loads, one after another, have no answer: the files before one were loaded, which leaves the count of faults as it
@@ -122,31 +119,17 @@ pub record RefusesSpec (held : Option Files) (kernel_name spec_name : List ℕ) 
   pub the_kernel : IsWhole kernel_text module_
   pub refused : RefusesSpecText module_ spec_text fault
 
--- A handler of this name is the first one that has an obligation with too many cases to try them all.
-pub record RefusesWidth (held : Option Files) (kernel_name spec_name : List ℕ) (h : ℕ) (name : List ℕ) : Type 0 where
-  pub module_ : ModuleView
-  pub layout : LayoutView
-  pub spec : Spec
-  pub transition : Transition
-  pub read : AreRead held kernel_name spec_name module_ spec
-  pub laid : IsLayoutOf module_ layout
-  pub first : IsFirstWide layout.objects spec h
-  pub there : slice_get spec.transitions h ≡ Some transition
-  pub named : name ≡ transition.name
-
--- Why a verification for these words ended before its first line, with the name of the handler where it is too wide.
--- Want of memory is the one free answer.
-abbrev pub HasCause : ShelfView → List ℕ → List ℕ → List ℕ → TopFault → Type 0
-HasCause shelf kernel spec name Usage = ⊥
-HasCause shelf kernel spec name (Read w) = IsLoadingFault shelf (verify_files kernel spec) (Read w)
-HasCause shelf kernel spec name (Long w) = IsLoadingFault shelf (verify_files kernel spec) (Long w)
-HasCause shelf kernel spec name (OfKernel f) = RefusesKernel shelf.held kernel spec f
-HasCause shelf kernel spec name (OfSpec f) = RefusesSpec shelf.held kernel spec f
-HasCause shelf kernel spec name (OfCnf f) = ⊥
-HasCause shelf kernel spec name (OfCall f) = ⊥
-HasCause shelf kernel spec name (Wide h) = RefusesWidth shelf.held kernel spec h name
-HasCause shelf kernel spec name Memory = ⊤
-HasCause shelf kernel spec name Write = ⊥
+-- Why a verification for these words ended before its first line. Want of memory is the one free answer.
+abbrev pub HasCause : ShelfView → List ℕ → List ℕ → TopFault → Type 0
+HasCause shelf kernel spec Usage = ⊥
+HasCause shelf kernel spec (Read w) = IsLoadingFault shelf (verify_files kernel spec) (Read w)
+HasCause shelf kernel spec (Long w) = IsLoadingFault shelf (verify_files kernel spec) (Long w)
+HasCause shelf kernel spec (OfKernel f) = RefusesKernel shelf.held kernel spec f
+HasCause shelf kernel spec (OfSpec f) = RefusesSpec shelf.held kernel spec f
+HasCause shelf kernel spec (OfCnf f) = ⊥
+HasCause shelf kernel spec (OfCall f) = ⊥
+HasCause shelf kernel spec Memory = ⊤
+HasCause shelf kernel spec Write = ⊥
 
 -- What reading both texts gives: the kernel and the specification that they spell, or the refusal of the first that is none.
 pub record Reads (kernel_text spec_text : List ℕ) (inputs : Inputs) : Type 0 where
@@ -168,5 +151,4 @@ ReadsTo kernel_text spec_text (Err (Read w)) = ⊥
 ReadsTo kernel_text spec_text (Err (Long w)) = ⊥
 ReadsTo kernel_text spec_text (Err (OfCnf f)) = ⊥
 ReadsTo kernel_text spec_text (Err (OfCall f)) = ⊥
-ReadsTo kernel_text spec_text (Err (Wide h)) = ⊥
 ReadsTo kernel_text spec_text (Err Write) = ⊥

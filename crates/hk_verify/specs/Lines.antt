@@ -11,13 +11,13 @@ use Rattle.hk_cnf.specs.declared.dimacs_read.CnfReason.{CnfReason}
 use Rattle.hk_cnf.specs.declared.dimacs_read.CnfReason.TheVariants.{C1, C2, C3}
 use Rattle.hk_rows.specs.Texts.{line}
 use Rattle.hk_verdict.specs.declared.verdict.Verdict.{Verdict}
-use Rattle.hk_verdict.specs.declared.verdict.Verdict.TheVariants.{Accepted, Rejected, Memory as NoMemory}
+use Rattle.hk_verdict.specs.declared.verdict.Verdict.TheVariants.{Accepted, Rejected, Unknown, Memory as NoMemory}
 use Rattle.hk_verdict.specs.declared.verdict.InitVerdict.{InitVerdict}
 use Rattle.hk_verdict.specs.declared.verdict.InitVerdict.TheVariants.{NotRun, Holds, FailsInvariant, FailsProperty}
 use Rattle.hk_verify.specs.declared.answer.CallReason.{CallReason}
 use Rattle.hk_verify.specs.declared.answer.CallReason.TheVariants.{A1, A2, A3}
 use Rattle.hk_verify.specs.declared.answer.TopFault.{TopFault}
-use Rattle.hk_verify.specs.declared.answer.TopFault.TheVariants.{Usage, Read, Long, Kernel, Spec, Cnf, Call, Wide, Memory, Write}
+use Rattle.hk_verify.specs.declared.answer.TopFault.TheVariants.{Usage, Read, Long, Kernel, Spec, Cnf, Call, Memory, Write}
 
 -- A reason as it is printed.
 abbrev pub kernel_code : KernelReason → List ℕ
@@ -68,18 +68,17 @@ call_code A3 = codes "A3"
 abbrev pub coded_line : List ℕ → ℕ → List ℕ → List ℕ
 coded_line text number code = line (text ∷ decimal number ∷ codes ": " ∷ code ∷ [])
 
--- The line of a fault; `name` is that of the handler where it is too wide, and the word 2 that of the function of `run`. After a failed put there is none.
-abbrev pub fault_text : List (List ℕ) → List ℕ → TopFault → List ℕ
-fault_text words name Usage = line (codes "usage: hkv verify, check, replay, lrat, run or bench" ∷ [])
-fault_text words name (Read w) = line (codes "read fault " ∷ slice_index_or words w [] ∷ [])
-fault_text words name (Long w) = line (codes "long " ∷ slice_index_or words w [] ∷ [])
-fault_text words name (Kernel f) = coded_line (codes "kernel ") f.line (kernel_code f.reason)
-fault_text words name (Spec f) = coded_line (codes "spec ") f.line (spec_code f.reason)
-fault_text words name (Cnf f) = coded_line (codes "cnf ") f.line (cnf_code f.reason)
-fault_text words name (Call f) = line (codes "call " ∷ slice_index_or words 2 [] ∷ codes ": " ∷ call_code f.reason ∷ [])
-fault_text words name (Wide h) = line (codes "wide " ∷ name ∷ [])
-fault_text words name Memory = line (codes "memory" ∷ [])
-fault_text words name Write = []
+-- The line of a fault; the word 2 is the function of `run`. After a failed put there is none.
+abbrev pub fault_text : List (List ℕ) → TopFault → List ℕ
+fault_text words Usage = line (codes "usage: hkv verify, check, replay, lrat, run or bench" ∷ [])
+fault_text words (Read w) = line (codes "read fault " ∷ slice_index_or words w [] ∷ [])
+fault_text words (Long w) = line (codes "long " ∷ slice_index_or words w [] ∷ [])
+fault_text words (Kernel f) = coded_line (codes "kernel ") f.line (kernel_code f.reason)
+fault_text words (Spec f) = coded_line (codes "spec ") f.line (spec_code f.reason)
+fault_text words (Cnf f) = coded_line (codes "cnf ") f.line (cnf_code f.reason)
+fault_text words (Call f) = line (codes "call " ∷ slice_index_or words 2 [] ∷ codes ": " ∷ call_code f.reason ∷ [])
+fault_text words Memory = line (codes "memory" ∷ [])
+fault_text words Write = []
 
 -- The status of a fault.
 abbrev pub fault_status : TopFault → ℕ
@@ -90,19 +89,26 @@ fault_status (Kernel f) = 3
 fault_status (Spec f) = 3
 fault_status (Cnf f) = 3
 fault_status (Call f) = 3
-fault_status (Wide h) = 3
 fault_status Memory = 7
 fault_status Write = 6
 
 abbrev pub is_rejection : Verdict → Bool
-is_rejection Accepted = false
+is_rejection (Accepted proofs) = false
 is_rejection (Rejected o c) = true
+is_rejection (Unknown o instances clauses log) = false
 is_rejection NoMemory = false
 
 abbrev pub is_memory : Verdict → Bool
-is_memory Accepted = false
+is_memory (Accepted proofs) = false
 is_memory (Rejected o c) = false
+is_memory (Unknown o instances clauses log) = false
 is_memory NoMemory = true
+
+abbrev pub is_unknown : Verdict → Bool
+is_unknown (Accepted proofs) = false
+is_unknown (Rejected o c) = false
+is_unknown (Unknown o instances clauses log) = true
+is_unknown NoMemory = false
 
 abbrev pub is_failed : InitVerdict → Bool
 is_failed NotRun = false
@@ -114,6 +120,10 @@ is_failed (FailsProperty p) = true
 abbrev pub is_faulted : InitVerdict → List Verdict → Bool
 is_faulted init verdicts = is_failed init || list_any is_rejection verdicts
 
+-- The status of a verification in which nothing is wrong: memory was refused for a handler, or else one is not decided.
+abbrev pub open_status : List Verdict → ℕ
+open_status verdicts = if list_any is_memory verdicts then 7 else if list_any is_unknown verdicts then 2 else 0
+
 -- The status of a verification without a fault.
 abbrev pub verdict_status : InitVerdict → List Verdict → ℕ
-verdict_status init verdicts = if is_faulted init verdicts then 1 else if list_any is_memory verdicts then 7 else 0
+verdict_status init verdicts = if is_faulted init verdicts then 1 else open_status verdicts

@@ -18,7 +18,7 @@ use Rattle.hk_rows.specs.Texts.{line}
 use Rattle.hk_verdict.specs.declared.verdict.InitVerdict.TheVariants.{NotRun}
 use Rattle.hk_verify.specs.declared.answer.Answer.{Answer}
 use Rattle.hk_verify.specs.declared.answer.TopFault.{TopFault}
-use Rattle.hk_verify.specs.declared.answer.TopFault.TheVariants.{Usage, Read, Long, Kernel as OfKernel, Spec as OfSpec, Cnf as OfCnf, Call as OfCall, Wide, Memory, Write}
+use Rattle.hk_verify.specs.declared.answer.TopFault.TheVariants.{Usage, Read, Long, Kernel as OfKernel, Spec as OfSpec, Cnf as OfCnf, Call as OfCall, Memory, Write}
 use Rattle.hk_verify.specs.Words.{IsLrat}
 use Rattle.hk_verify.specs.Inputs.{ShelfView, AreLoaded, IsLoadingFault, lrat_files}
 use Rattle.hk_verify.specs.Answers.{SinkView, IsRefused}
@@ -75,7 +75,6 @@ TellsWith sink outcome answer (Some (OfKernel f)) = ⊥
 TellsWith sink outcome answer (Some (OfSpec f)) = ⊥
 TellsWith sink outcome answer (Some (OfCnf f)) = ⊥
 TellsWith sink outcome answer (Some (OfCall f)) = ⊥
-TellsWith sink outcome answer (Some (Wide h)) = ⊥
 TellsWith sink outcome answer (Some Memory) = ⊥
 
 pub record Tells (sink : SinkView) (outcome : Option Fault) (answer : Answer) : Type 0 where
@@ -112,7 +111,6 @@ ReadsCnf answer (Err (Long w)) = ⊥
 ReadsCnf answer (Err (OfKernel f)) = ⊥
 ReadsCnf answer (Err (OfSpec f)) = ⊥
 ReadsCnf answer (Err (OfCall f)) = ⊥
-ReadsCnf answer (Err (Wide h)) = ⊥
 ReadsCnf answer (Err Write) = ⊥
 
 -- Why the call ended before its line. Want of memory is the one free answer.
@@ -125,7 +123,6 @@ HasLratCause shelf cnf proof Usage = ⊥
 HasLratCause shelf cnf proof (OfKernel f) = ⊥
 HasLratCause shelf cnf proof (OfSpec f) = ⊥
 HasLratCause shelf cnf proof (OfCall f) = ⊥
-HasLratCause shelf cnf proof (Wide h) = ⊥
 HasLratCause shelf cnf proof Write = ⊥
 
 -- The proof was tried, and its line put.
@@ -139,7 +136,7 @@ pub record IsUnchecked (shelf : ShelfView) (sink : SinkView) (words : List (List
   pub fault : TopFault
   pub is_fault : answer.fault ≡ Some fault
   pub cause : HasLratCause shelf cnf proof fault
-  pub refused : IsRefused sink words [] fault answer
+  pub refused : IsRefused sink words fault answer
 
 -- What the answer to `lrat CNF PROOF` means.
 abbrev pub MeansLrat : ShelfView → SinkView → List (List ℕ) → List ℕ → List ℕ → Answer → Type 0

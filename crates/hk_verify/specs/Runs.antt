@@ -6,9 +6,7 @@ use Rattle.hk_io.specs.Faults.{Rose}
 use Rattle.hk_io.specs.Held.{Files}
 use Rattle.hk_io.specs.Shown.{shown_with, ShowsPrefix}
 use Rattle.ir_ast.specs.Program.{ModuleView}
-use Rattle.ir_ast.specs.ProgramView.{view_module}
 use Rattle.ir_ast.specs.declared.fault.KernelFault.{KernelFault}
-use Rattle.ir_ast.specs.declared.module.Module.{Module}
 use Rattle.ir_layout.specs.Initial.{initial_memory}
 use Rattle.ir_check.specs.Answers.{find_body}
 use Rattle.ir_value.specs.declared.value.StuckReason.{StuckReason}
@@ -27,7 +25,7 @@ use Rattle.hk_verify.specs.declared.answer.CallFault.{CallFault}
 use Rattle.hk_verify.specs.declared.answer.CallReason.{CallReason}
 use Rattle.hk_verify.specs.declared.answer.CallReason.TheVariants.{A1, A2, A3}
 use Rattle.hk_verify.specs.declared.answer.TopFault.{TopFault}
-use Rattle.hk_verify.specs.declared.answer.TopFault.TheVariants.{Usage, Read, Long, Kernel as OfKernel, Spec as OfSpec, Cnf as OfCnf, Call as OfCall, Wide, Memory, Write}
+use Rattle.hk_verify.specs.declared.answer.TopFault.TheVariants.{Usage, Read, Long, Kernel as OfKernel, Spec as OfSpec, Cnf as OfCnf, Call as OfCall, Memory, Write}
 use Rattle.hk_verify.specs.Inputs.{ShelfView, AreLoaded, IsLoadingFault, run_files}
 use Rattle.hk_verify.specs.Answers.{SinkView, IsRefused}
 use Rattle.hk_verify.specs.Whole.{IsWhole, RefusesWhole}
@@ -50,7 +48,6 @@ FaultOf why (Long w) = ⊥
 FaultOf why (OfKernel f) = ⊥
 FaultOf why (OfSpec f) = ⊥
 FaultOf why (OfCnf f) = ⊥
-FaultOf why (Wide h) = ⊥
 FaultOf why Write = ⊥
 
 -- Why the function of a name is not run with these arguments; none where it is.
@@ -74,7 +71,6 @@ Calls m function arguments (Err (Long w)) = ⊥
 Calls m function arguments (Err (OfKernel f)) = ⊥
 Calls m function arguments (Err (OfSpec f)) = ⊥
 Calls m function arguments (Err (OfCnf f)) = ⊥
-Calls m function arguments (Err (Wide h)) = ⊥
 Calls m function arguments (Err Write) = ⊥
 
 -- ---- lines
@@ -146,7 +142,6 @@ TellsEndWith sink m e answer (Some (OfKernel f)) = ⊥
 TellsEndWith sink m e answer (Some (OfSpec f)) = ⊥
 TellsEndWith sink m e answer (Some (OfCnf f)) = ⊥
 TellsEndWith sink m e answer (Some (OfCall f)) = ⊥
-TellsEndWith sink m e answer (Some (Wide h)) = ⊥
 TellsEndWith sink m e answer (Some Memory) = ⊥
 
 pub record TellsEnd (sink : SinkView) (m : ModuleView) (e : RunEnd) (answer : Answer) : Type 0 where
@@ -186,7 +181,6 @@ HasRunCause shelf kernel function arguments Memory = ⊤
 HasRunCause shelf kernel function arguments Usage = ⊥
 HasRunCause shelf kernel function arguments (OfSpec f) = ⊥
 HasRunCause shelf kernel function arguments (OfCnf f) = ⊥
-HasRunCause shelf kernel function arguments (Wide h) = ⊥
 HasRunCause shelf kernel function arguments Write = ⊥
 
 -- The function was run, and the end of its run put.
@@ -201,7 +195,7 @@ pub record IsNotRun (shelf : ShelfView) (sink : SinkView) (words : List (List �
   pub fault : TopFault
   pub is_fault : answer.fault ≡ Some fault
   pub cause : HasRunCause shelf kernel function arguments fault
-  pub refused : IsRefused sink words [] fault answer
+  pub refused : IsRefused sink words fault answer
 
 -- What the answer to `run KERNEL FUNCTION [ARG ..]` means.
 abbrev pub MeansRun : ShelfView → SinkView → List (List ℕ) → List ℕ → List ℕ → List ℕ → Answer → Type 0

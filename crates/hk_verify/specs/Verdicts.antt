@@ -8,38 +8,38 @@ use Rattle.ir_layout.specs.Layouts.{LayoutView, IsLayoutOf}
 use Rattle.spec_tree.specs.Plain.{Spec, Transition}
 use Rattle.hk_verdict.specs.declared.verdict.Verdict.{Verdict}
 use Rattle.hk_verdict.specs.Report.{verdict_text, verdicts_text}
-use Rattle.hk_try.specs.Right.{IsRight}
+use Rattle.hk_decide.specs.Right.{IsRight}
 
--- The verdict is right for the handler, over the objects of the kernel's layout.
-abbrev pub IsRightFor : ModuleView → Spec → Transition → Verdict → Type 0
-IsRightFor m spec t verdict = (layout : LayoutView) → IsLayoutOf m layout → IsRight m layout.objects spec t verdict
+-- The verdict is right for the handler where a round may take so many conflicts, over the objects of the kernel's layout.
+abbrev pub IsRightFor : ℕ → ModuleView → Spec → Transition → Verdict → Type 0
+IsRightFor budget m spec t verdict = (layout : LayoutView) → IsLayoutOf m layout → IsRight budget m layout.objects spec t verdict
 
 -- Right verdicts for these handlers, one for each in their order.
-abbrev pub AreRight : ModuleView → Spec → List Transition → List Verdict → Type 0
-AreRight m spec transitions verdicts = AllZip (IsRightFor m spec) transitions verdicts
+abbrev pub AreRight : ℕ → ModuleView → Spec → List Transition → List Verdict → Type 0
+AreRight budget m spec transitions verdicts = AllZip (IsRightFor budget m spec) transitions verdicts
 
 -- The verdict of one handler was added to the list, and its lines are shown.
-pub record Adds (m : ModuleView) (spec : Spec) (t : Transition) (old new : List Verdict) (shown shown' : Option (List ℕ)) : Type 0 where
+pub record Adds (budget : ℕ) (m : ModuleView) (spec : Spec) (t : Transition) (old new : List Verdict) (shown shown' : Option (List ℕ)) : Type 0 where
   pub verdict : Verdict
-  pub right : IsRightFor m spec t verdict
+  pub right : IsRightFor budget m spec t verdict
   pub added : new ≡ old ++ verdict ∷ []
   pub says : shown' ≡ shown_with shown (verdict_text m spec t verdict)
 
 -- The verdict of one handler was added to the list, and the put of its lines failed: a prefix of them is shown.
-pub record AddsCut (m : ModuleView) (spec : Spec) (t : Transition) (old new : List Verdict) (shown shown' : Option (List ℕ)) : Type 0 where
+pub record AddsCut (budget : ℕ) (m : ModuleView) (spec : Spec) (t : Transition) (old new : List Verdict) (shown shown' : Option (List ℕ)) : Type 0 where
   pub verdict : Verdict
-  pub right : IsRightFor m spec t verdict
+  pub right : IsRightFor budget m spec t verdict
   pub added : new ≡ old ++ verdict ∷ []
   pub cut : ShowsPrefix shown shown' (verdict_text m spec t verdict)
 
 -- Every handler has a right verdict, and the sink shows all their lines.
-pub record AreShown (m : ModuleView) (spec : Spec) (verdicts : List Verdict) (shown shown' : Option (List ℕ)) : Type 0 where
-  pub right : AreRight m spec spec.transitions verdicts
+pub record AreShown (budget : ℕ) (m : ModuleView) (spec : Spec) (verdicts : List Verdict) (shown shown' : Option (List ℕ)) : Type 0 where
+  pub right : AreRight budget m spec spec.transitions verdicts
   pub says : shown' ≡ shown_with shown (verdicts_text m spec verdicts)
 
 -- The handlers up to some one have right verdicts, and a put of that one's lines failed: the lines before them are
 -- shown, and a prefix of them.
-pub record AreCut (m : ModuleView) (spec : Spec) (verdicts : List Verdict) (shown shown' : Option (List ℕ)) : Type 0 where
+pub record AreCut (budget : ℕ) (m : ModuleView) (spec : Spec) (verdicts : List Verdict) (shown shown' : Option (List ℕ)) : Type 0 where
   pub before : List Transition
   pub failed : Transition
   pub behind : List Transition
@@ -47,6 +47,6 @@ pub record AreCut (m : ModuleView) (spec : Spec) (verdicts : List Verdict) (show
   pub front : List Verdict
   pub last : Verdict
   pub parts : verdicts ≡ front ++ last ∷ []
-  pub right : AreRight m spec before front
-  pub right_last : IsRightFor m spec failed last
+  pub right : AreRight budget m spec before front
+  pub right_last : IsRightFor budget m spec failed last
   pub cut : ShowsPrefix (shown_with shown (verdicts_text m spec front)) shown' (verdict_text m spec failed last)

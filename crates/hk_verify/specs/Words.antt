@@ -1,6 +1,6 @@
 -- The forms of the command words.
 
-use Rattle.std.specs.Prelude.{ℕ, ◌≡◌, ◌<◌, ◌^◌, List, [], ◌∷◌, map, codes, String, string_bytes, All}
+use Rattle.std.specs.Prelude.{ℕ, ◌≡◌, ◌<◌, ◌≤◌, ◌^◌, ◌⊎◌, List, [], ◌∷◌, map, codes, String, string_bytes, All}
 use Rattle.std.specs.Fmt.{decimal}
 use Rattle.std.specs.declared.alloc.Global.{Global}
 
@@ -8,9 +8,28 @@ use Rattle.std.specs.declared.alloc.Global.{Global}
 abbrev pub bytes_of : List (String Global) → List (List ℕ)
 bytes_of words = map string_bytes words
 
--- The words `verify KERNEL SPEC`.
-abbrev pub IsVerify : List (List ℕ) → List ℕ → List ℕ → Type 0
-IsVerify words kernel spec = words ≡ codes "verify" ∷ kernel ∷ spec ∷ []
+-- The conflicts that a round of the solver may take where the words name no number, and the most that they may name.
+abbrev pub usual_conflicts : ℕ
+usual_conflicts = 20000
+
+abbrev pub most_conflicts : ℕ
+most_conflicts = 1000000
+
+-- The option `--conflicts N`: N is the decimal digits of a number.
+pub record NamesConflicts (options : List (List ℕ)) (budget : ℕ) : Type 0 where
+  pub form : options ≡ codes "--conflicts" ∷ decimal budget ∷ []
+  pub some : 1 ≤ budget
+  pub most : budget ≤ most_conflicts
+
+-- The conflicts that a round may take by these options.
+abbrev pub AllowConflicts : List (List ℕ) → ℕ → Type 0
+AllowConflicts options budget = ((options ≡ []) × (budget ≡ usual_conflicts)) ⊎ NamesConflicts options budget
+
+-- The words `verify KERNEL SPEC [--conflicts N]`, by which a round may take so many conflicts.
+pub record IsVerify (words : List (List ℕ)) (kernel spec : List ℕ) (budget : ℕ) : Type 0 where
+  pub options : List (List ℕ)
+  pub form : words ≡ codes "verify" ∷ kernel ∷ spec ∷ options
+  pub allowed : AllowConflicts options budget
 
 -- The words `lrat CNF PROOF`.
 abbrev pub IsLrat : List (List ℕ) → List ℕ → List ℕ → Type 0
@@ -29,6 +48,6 @@ pub record AreNumbers (words : List (List ℕ)) : Type 0 where
 
 -- The words have no form.
 pub record HasNoForm (words : List (List ℕ)) : Type 0 where
-  pub no_verify : (kernel spec : List ℕ) → IsVerify words kernel spec → ⊥
+  pub no_verify : (kernel spec : List ℕ) (budget : ℕ) → IsVerify words kernel spec budget → ⊥
   pub no_lrat : (cnf proof : List ℕ) → IsLrat words cnf proof → ⊥
   pub no_run : (kernel function : List ℕ) (arguments : List ℕ) → IsRun words kernel function arguments → ⊥

@@ -42,8 +42,6 @@ pub enum TopFault {
     Cnf(CnfFault),
     /// The function is not run.
     Call(CallFault),
-    /// This handler has an obligation of more than sixteen case bits, and is the first such.
-    Wide { handler: u32 },
     /// Memory was refused before the first line.
     Memory,
     /// The output failed.

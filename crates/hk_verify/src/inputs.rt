@@ -1,6 +1,6 @@
 //! The inputs of a verification: two files, loaded in the order of their words and then read, the kernel's first.
 
-ghost use Rattle.std.specs.Prelude.{◌≡◌, ◌<◌, ◌^◌, [], IfOk, IfErr, length};
+ghost use Rattle.std.specs.Prelude.{◌≡◌, ◌<◌, ◌^◌, IfOk, IfErr, length};
 ghost use Rattle.std.specs.Result.{result_err};
 ghost use Rattle.ir_ast.specs.ProgramView.{view_module};
 ghost use Rattle.spec_ast.specs.View as raws;
@@ -92,7 +92,7 @@ pub fn read_inputs<F: Shelf>(
     ensures fits { IfOk result (λ inputs. FitsModule (view_module inputs.kernel) (view_spec inputs.spec)) }
     ensures fault { IfErr result (λ fault.
         let view : ShelfView = record { held = F.held shelf.old; before = F.faults shelf.old; after = F.faults shelf.new } in
-        HasCause view kernel.now spec.now [] fault) }
+        HasCause view kernel.now spec.now fault) }
     ensures counts { CountsLoads (result_err result) (F.faults shelf.old) (F.faults shelf.new) }
     ensures held { F.held shelf.new ≡ F.held shelf.old }
 {

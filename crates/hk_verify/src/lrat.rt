@@ -182,6 +182,6 @@ pub fn lrat<'x, F: Shelf, O: Sink>(
 {
     match try_proof(alloc, shelf, cnf, proof) {
         Ok(outcome) => report(alloc, out, outcome),
-        Err(fault) => refuse(alloc, out, words, &[], fault),
+        Err(fault) => refuse(alloc, out, words, fault),
     }
 }

@@ -33,7 +33,6 @@ pub fn status(answer: &TopFault) -> u8
         TopFault::Spec(_) => 3,
         TopFault::Cnf(_) => 3,
         TopFault::Call(_) => 3,
-        TopFault::Wide { .. } => 3,
         TopFault::Memory => 7,
         TopFault::Write => 6,
     }
@@ -178,15 +177,10 @@ fn put_called<'x, O: Sink>(out: &mut O, name: &'x [u8], code: &'x [u8]) -> Resul
     )
 }
 
-/// Puts the line of a fault; `name` is that of the handler where it is too wide. After a failed put there is none.
-fn put_fault<O: Sink>(
-    out: &mut O,
-    words: &[String],
-    name: &[u8],
-    fault: TopFault,
-) -> Result<(), SinkFault>
-    ensures whole { OnOk result (O.shown out.new ≡ shown_with (O.shown out.old) (fault_text (bytes_of words.now) name.now fault)) }
-    ensures cut { OnErr result (ShowsPrefix (O.shown out.old) (O.shown out.new) (fault_text (bytes_of words.now) name.now fault)) }
+/// Puts the line of a fault. After a failed put there is none.
+fn put_fault<O: Sink>(out: &mut O, words: &[String], fault: TopFault) -> Result<(), SinkFault>
+    ensures whole { OnOk result (O.shown out.new ≡ shown_with (O.shown out.old) (fault_text (bytes_of words.now) fault)) }
+    ensures cut { OnErr result (ShowsPrefix (O.shown out.old) (O.shown out.new) (fault_text (bytes_of words.now) fault)) }
     ensures failed { OnErr result (Rose (O.faults out.old) (O.faults out.new)) }
     ensures still { OnOk result (O.faults out.new ≡ O.faults out.old) }
 {
@@ -207,26 +201,19 @@ fn put_fault<O: Sink>(
             word_at(words, FUNCTION_WORD),
             call_reason(fault.reason),
         ),
-        TopFault::Wide { .. } => put_named(out, b"wide ", name),
         TopFault::Memory => put_text(out, b"memory"),
         TopFault::Write => Ok(()),
     }
 }
 
 /// Ends a call with a fault: its line is put, and a fault of that put changes nothing in the answer.
-pub fn refuse<O: Sink>(
-    alloc: Global,
-    out: &mut O,
-    words: &[String],
-    name: &[u8],
-    fault: TopFault,
-) -> Answer
+pub fn refuse<O: Sink>(alloc: Global, out: &mut O, words: &[String], fault: TopFault) -> Answer
     ensures fault { result.fault ≡ Some fault }
     ensures refused { let sink : SinkView = record { shown = O.shown out.old; shown' = O.shown out.new; faults = O.faults out.old; faults' = O.faults out.new } in
-        IsRefused sink (bytes_of words.now) name.now fault result }
+        IsRefused sink (bytes_of words.now) fault result }
 {
     let status = status(&fault);
-    let _ = put_fault(out, words, name, fault);
+    let _ = put_fault(out, words, fault);
     Answer {
         status,
         init: InitVerdict::NotRun,

@@ -286,7 +286,7 @@ fn run_with<'x, F: Shelf, O: Sink>(
 {
     match try_run(alloc, shelf, kernel, function, arguments) {
         Ok(ran) => report(alloc, out, &ran.kernel, &ran.end),
-        Err(fault) => refuse(alloc, out, words, &[], fault),
+        Err(fault) => refuse(alloc, out, words, fault),
     }
 }
 
@@ -313,6 +313,6 @@ pub fn run<'x, F: Shelf, O: Sink>(
 {
     match numbers_of(alloc, arguments) {
         Ok(numbers) => run_with(alloc, words, kernel, function, &numbers, shelf, out),
-        Err(_) => refuse(alloc, out, words, &[], TopFault::Memory),
+        Err(_) => refuse(alloc, out, words, TopFault::Memory),
     }
 }

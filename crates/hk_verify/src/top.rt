@@ -4,7 +4,7 @@ ghost use Rattle.std.specs.Prelude.{◌≡◌, ◌∷◌, [], List, ℕ, IfSome,
 ghost use Rattle.hk_verify.specs.Words.{HasNoForm, IsLrat, IsRun, IsVerify, bytes_of};
 ghost use Rattle.hk_verify.specs.Inputs.{ShelfView};
 ghost use Rattle.hk_verify.specs.Answers.{SinkView, HidesNone, IsUsage, Means};
-ghost use Rattle.hk_verify.specs.Headline.{AcceptsCorrect, RejectsRefuted};
+ghost use Rattle.hk_verify.specs.Headline.{AcceptsCorrect, RejectsRefuted, UnknownsSpent};
 ghost use Rattle.hk_verify.specs.Lrat.{MeansLrat, RefutesSoundly};
 ghost use Rattle.hk_verify.specs.Runs.{MeansRun};
 
@@ -13,7 +13,7 @@ use crate::lrat::lrat;
 use crate::refusal::refuse;
 use crate::running::run;
 use crate::verify::verify;
-use crate::words::behind_run;
+use crate::words::{behind_run, behind_verify};
 use hk_io::{Shelf, Sink};
 use std::alloc::Global;
 
@@ -36,8 +36,8 @@ fn names_behind<'x>(words: &'x [String], command: &'x str) -> Option<(&'x str, &
 
 /// Does what the words ask, reads from the shelf and reports on the sink.
 ///
-/// The forms so far are `verify KERNEL SPEC`, `lrat CNF PROOF` and `run KERNEL FUNCTION [ARG ..]`; other words are a faulty command
-/// line. Want of memory alone is free.
+/// The forms so far are `verify KERNEL SPEC [--conflicts N]`, `lrat CNF PROOF` and `run KERNEL FUNCTION [ARG ..]`; other words are a
+/// faulty command line. Want of memory alone is free.
 pub fn run_words<F: Shelf, O: Sink>(
     alloc: Global,
     words: &[String],
@@ -48,11 +48,13 @@ pub fn run_words<F: Shelf, O: Sink>(
     ensures accepted { AcceptsCorrect (F.held shelf.old) (bytes_of words.now) result }
     // each handler reported rejected is refuted by the state and arguments that are printed
     ensures rejected { RejectsRefuted (F.held shelf.old) (bytes_of words.now) result }
+    // each handler reported unknown spent all conflicts that the words allow on one of its obligations
+    ensures unknown { UnknownsSpent (F.held shelf.old) (bytes_of words.now) result }
     // what is answered and shown: the report of right verdicts, one for each handler, or a fault with its cause
-    ensures meaning { (kernel spec : List ℕ) → IsVerify (bytes_of words.now) kernel spec →
+    ensures meaning { (kernel spec : List ℕ) (budget : ℕ) → IsVerify (bytes_of words.now) kernel spec budget →
         let view : ShelfView = record { held = F.held shelf.old; before = F.faults shelf.old; after = F.faults shelf.new } in
         let sink : SinkView = record { shown = O.shown out.old; shown' = O.shown out.new; faults = O.faults out.old; faults' = O.faults out.new } in
-        Means view sink (bytes_of words.now) kernel spec result }
+        Means view sink (bytes_of words.now) kernel spec budget result }
     // where a refutation is reported, no assignment satisfies the clause list
     ensures refuted { RefutesSoundly (F.held shelf.old) (bytes_of words.now) result }
     // what is answered and shown for a refutation: the line of its first fault or of none, or a fault with its cause
@@ -75,8 +77,8 @@ pub fn run_words<F: Shelf, O: Sink>(
         HidesNone view sink result }
     ensures held { F.held shelf.new ≡ F.held shelf.old }
 {
-    if let Some((kernel, spec)) = names_behind(words, "verify") {
-        return verify(alloc, words, kernel, spec, shelf, out);
+    if let Some((kernel, spec, budget)) = behind_verify(words) {
+        return verify(alloc, words, kernel, spec, budget, shelf, out);
     }
     if let Some((cnf, proof)) = names_behind(words, "lrat") {
         return lrat(alloc, words, cnf, proof, shelf, out);
@@ -85,6 +87,6 @@ pub fn run_words<F: Shelf, O: Sink>(
         Some((kernel, function, arguments)) => {
             run(alloc, words, kernel, function, arguments, shelf, out)
         }
-        None => refuse(alloc, out, words, &[], TopFault::Usage),
+        None => refuse(alloc, out, words, TopFault::Usage),
     }
 }

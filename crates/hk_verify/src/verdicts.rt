@@ -4,16 +4,14 @@ ghost use Rattle.std.specs.Prelude.{◌≡◌, ◌≤◌, ◌+◌, ◌<◌, [], 
 ghost use Rattle.std.specs.Vec.{vec_capacity};
 ghost use Rattle.hk_io.specs.Faults.{Rose};
 ghost use Rattle.ir_ast.specs.ProgramView.{view_module};
-ghost use Rattle.ir_layout.specs.Layouts.{LayoutView, IsLayoutOf};
 ghost use Rattle.spec_tree.specs.Sorted.{IsWellSorted};
 ghost use Rattle.spec_tree.specs.View.{view_spec, view_transition};
 ghost use Rattle.spec_kernel.specs.Fit.{FitsModule};
 ghost use Rattle.hk_verdict.specs.Report.{IsShownVerdict};
-ghost use Rattle.hk_try.specs.Widths.{AreNarrow};
 ghost use Rattle.hk_verify.specs.Verdicts.{Adds, AddsCut, AreCut, AreShown, IsRightFor};
 
+use hk_decide::decide;
 use hk_io::{Sink, SinkFault};
-use hk_try::decide;
 use hk_verdict::{Verdict, put_verdict};
 use ir_kernel::Kernel;
 use spec_tree::{Spec, Transition};
@@ -26,16 +24,17 @@ fn verdict_of(
     spec: &Spec,
     place: u32,
     transition: &Transition,
+    budget: u64,
 ) -> Verdict
     requires sorted { IsWellSorted (view_spec spec.now) }
     requires fits { FitsModule (view_module kernel.now) (view_spec spec.now) }
     requires there { slice_get (view_spec spec.now).transitions place ≡ Some (view_transition transition.now) }
-    requires narrow { (l : LayoutView) → IsLayoutOf (view_module kernel.now) l → AreNarrow l.objects (view_spec spec.now) }
-    ensures right { IsRightFor (view_module kernel.now) (view_spec spec.now) (view_transition transition.now) result }
+    requires budget { 1 ≤ budget }
+    ensures right { IsRightFor budget (view_module kernel.now) (view_spec spec.now) (view_transition transition.now) result }
     ensures shown { IsShownVerdict (view_spec spec.now) result }
 {
     let _layout = kernel.layout();
-    match decide(alloc, kernel, spec, place) {
+    match decide(alloc, kernel, spec, place, budget, false) {
         Ok(verdict) => verdict,
         Err(_) => Verdict::Memory,
     }
@@ -48,51 +47,63 @@ fn decide_next<O: Sink>(
     spec: &Spec,
     place: u32,
     transition: &Transition,
+    budget: u64,
     verdicts: &mut Vec<Verdict>,
     out: &mut O,
 ) -> Result<(), SinkFault>
     requires sorted { IsWellSorted (view_spec spec.now) }
     requires fits { FitsModule (view_module kernel.now) (view_spec spec.now) }
     requires there { slice_get (view_spec spec.now).transitions place ≡ Some (view_transition transition.now) }
-    requires narrow { (l : LayoutView) → IsLayoutOf (view_module kernel.now) l → AreNarrow l.objects (view_spec spec.now) }
+    requires budget { 1 ≤ budget }
     requires room { vec_len verdicts.old < vec_capacity verdicts.old }
-    ensures whole { OnOk result (Adds (view_module kernel.now) (view_spec spec.now) (view_transition transition.now) verdicts.old.items verdicts.new.items (O.shown out.old) (O.shown out.new)) }
-    ensures cut { OnErr result (AddsCut (view_module kernel.now) (view_spec spec.now) (view_transition transition.now) verdicts.old.items verdicts.new.items (O.shown out.old) (O.shown out.new)) }
+    ensures whole { OnOk result (Adds budget (view_module kernel.now) (view_spec spec.now) (view_transition transition.now) verdicts.old.items verdicts.new.items (O.shown out.old) (O.shown out.new)) }
+    ensures cut { OnErr result (AddsCut budget (view_module kernel.now) (view_spec spec.now) (view_transition transition.now) verdicts.old.items verdicts.new.items (O.shown out.old) (O.shown out.new)) }
     ensures failed { OnErr result (Rose (O.faults out.old) (O.faults out.new)) }
     ensures still { OnOk result (O.faults out.new ≡ O.faults out.old) }
     ensures room { vec_capacity verdicts.new ≡ vec_capacity verdicts.old }
     ensures counted { vec_len verdicts.new ≡ vec_len verdicts.old + 1 }
 {
-    let verdict = verdict_of(alloc, kernel, spec, place, transition);
+    let verdict = verdict_of(alloc, kernel, spec, place, transition, budget);
     let put = put_verdict(out, kernel, spec, transition, &verdict);
     verdicts.push_reserved(verdict);
     put
 }
 
-/// Decides every handler in the order of the specification: its lines are put before the next one is decided.
+/// Decides every handler in the order of the specification, a round of the solver with so many conflicts at most: its lines are put
+/// before the next one is decided.
 ///
 /// After a failed put the list ends with the handler whose lines failed.
 pub fn decide_all<O: Sink>(
     alloc: Global,
     kernel: &Kernel,
     spec: &Spec,
+    budget: u64,
     verdicts: &mut Vec<Verdict>,
     out: &mut O,
 ) -> Result<(), SinkFault>
     requires sorted { IsWellSorted (view_spec spec.now) }
     requires fits { FitsModule (view_module kernel.now) (view_spec spec.now) }
-    requires narrow { (l : LayoutView) → IsLayoutOf (view_module kernel.now) l → AreNarrow l.objects (view_spec spec.now) }
+    requires budget { 1 ≤ budget }
     requires empty { verdicts.old.items ≡ [] }
     requires unused { vec_len verdicts.old ≡ 0 }
     requires room { length spec.now.transitions ≤ vec_capacity verdicts.old }
-    ensures whole { OnOk result (AreShown (view_module kernel.now) (view_spec spec.now) verdicts.new.items (O.shown out.old) (O.shown out.new)) }
-    ensures cut { OnErr result (AreCut (view_module kernel.now) (view_spec spec.now) verdicts.new.items (O.shown out.old) (O.shown out.new)) }
+    ensures whole { OnOk result (AreShown budget (view_module kernel.now) (view_spec spec.now) verdicts.new.items (O.shown out.old) (O.shown out.new)) }
+    ensures cut { OnErr result (AreCut budget (view_module kernel.now) (view_spec spec.now) verdicts.new.items (O.shown out.old) (O.shown out.new)) }
     ensures failed { OnErr result (Rose (O.faults out.old) (O.faults out.new)) }
     ensures still { OnOk result (O.faults out.new ≡ O.faults out.old) }
 {
     let transitions = spec.transitions.as_slice();
     for (place, transition) in transitions.iter().enumerate() {
-        decide_next(alloc, kernel, spec, place as u32, transition, verdicts, out)?;
+        decide_next(
+            alloc,
+            kernel,
+            spec,
+            place as u32,
+            transition,
+            budget,
+            verdicts,
+            out,
+        )?;
     }
     Ok(())
 }

@@ -1,11 +1,17 @@
-//! The words of `run KERNEL FUNCTION [ARG ..]`.
+//! The words of `verify KERNEL SPEC [--conflicts N]` and of `run KERNEL FUNCTION [ARG ..]`.
 
-ghost use Rattle.std.specs.Prelude.{◌≡◌, ◌<◌, ◌^◌, ◌∷◌, ℕ, List, IfSome, IfNone, IfOk, IsTrue, All, false, map, bytes_eq, codes};
+ghost use Rattle.std.specs.Prelude.{◌≡◌, ◌<◌, ◌≤◌, ◌^◌, ◌∷◌, ℕ, List, IfSome, IfNone, IfOk, IsTrue, All, false, map, bytes_eq, codes};
 ghost use Rattle.std.specs.Fmt.{decimal};
-ghost use Rattle.hk_verify.specs.Words.{AreNumbers, IsRun, bytes_of};
+ghost use Rattle.hk_verify.specs.Words.{AllowConflicts, AreNumbers, IsRun, IsVerify, bytes_of, most_conflicts};
 
 use itoa::Buffer;
 use std::alloc::{AllocError, Global};
+
+/// The conflicts that a round of the solver may take where the words name no number.
+const USUAL_CONFLICTS: u64 = 20_000;
+
+/// The most conflicts that the words may name.
+const MOST_CONFLICTS: u64 = 1_000_000;
 
 /// Whether a word is the decimal digits of a number.
 fn spells(word: &str, number: u64) -> bool
@@ -29,6 +35,64 @@ fn number_of(word: &str) -> Option<u64>
             }
         }
         Err(_) => None,
+    }
+}
+
+/// The number of conflicts of which a word is the decimal digits.
+fn conflicts_of(word: &str) -> Option<u64>
+    ensures number { IfSome result (λ n. word.now ≡ decimal n) }
+    ensures some { IfSome result (λ n. 1 ≤ n) }
+    ensures most { IfSome result (λ n. n ≤ most_conflicts) }
+    ensures none { IfNone result ((n : ℕ) → 1 ≤ n → n ≤ most_conflicts → word.now ≡ decimal n → ⊥) }
+{
+    match number_of(word) {
+        Some(number) => {
+            if 1 <= number && number <= MOST_CONFLICTS {
+                Some(number)
+            } else {
+                None
+            }
+        }
+        None => None,
+    }
+}
+
+/// The conflicts that a round may take by the options of `verify`.
+fn allowed(options: &[String]) -> Option<u64>
+    ensures allowed { IfSome result (AllowConflicts (bytes_of options.now)) }
+    ensures none { IfNone result ((budget : ℕ) → AllowConflicts (bytes_of options.now) budget → ⊥) }
+{
+    match options {
+        [] => Some(USUAL_CONFLICTS),
+        [option, number] => {
+            if option.as_str() == "--conflicts" {
+                conflicts_of(number.as_str())
+            } else {
+                None
+            }
+        }
+        _ => None,
+    }
+}
+
+/// The names of the kernel and the specification and the conflicts that a round may take, where the words are those of `verify`. It takes
+/// no memory.
+pub fn behind_verify<'x>(words: &'x [String]) -> Option<(&'x str, &'x str, u64)>
+    ensures form { IfSome result (λ r. IsVerify (bytes_of words.now) r.0.now r.1.now r.2) }
+    ensures some { IfSome result (λ r. 1 ≤ r.2) }
+    ensures none { IfNone result ((kernel spec : List ℕ) (budget : ℕ) → IsVerify (bytes_of words.now) kernel spec budget → ⊥) }
+{
+    match words {
+        [command, kernel, spec, options @ ..] => {
+            if command.as_str() != "verify" {
+                return None;
+            }
+            match allowed(options) {
+                Some(budget) => Some((kernel.as_str(), spec.as_str(), budget)),
+                None => None,
+            }
+        }
+        _ => None,
     }
 }
 

@@ -2,8 +2,8 @@
 //! exit status come out.
 //!
 //! They stand in a crate of their own, above the top call, so that it is not proved a second time for them. What they
-//! expect was written from the rules of the formats, and cases that are shown were found by hand: the first in the order of
-//! their numbers, low bits first, state before arguments.
+//! expect was written from the rules of the formats. Where several cases violate an obligation, any of them may be shown
+//! (`shown`).
 #![tactic(auto)]
 
 #[cfg(test)]
@@ -25,10 +25,12 @@ mod many_tests;
 #[cfg(test)]
 mod obligation_tests;
 #[cfg(test)]
+mod option_tests;
+#[cfg(test)]
 mod outside_tests;
 #[cfg(test)]
 mod row_tests;
 #[cfg(test)]
-mod spec_tests;
+mod shown;
 #[cfg(test)]
-mod wide_tests;
+mod spec_tests;

@@ -1,4 +1,4 @@
-//! Small handlers for each obligation. A case that is shown is the first that violates it, found by hand.
+//! Small handlers for each obligation. What a line that is shown of a case must begin with was found by hand.
 
 use crate::calls::first_wrong;
 use std::test::Fail;
@@ -254,14 +254,19 @@ fn what_a_handler_breaks_is_named(rt: HostRuntime) -> Result<(), Fail> {
     let wrong = first_wrong(
         &rt,
         &[
-            // the first argument of ten, from the memory of zero
+            // an argument of ten or more has two digits, and the memory is below ten
             (
                 SETS,
                 SET_LOW,
-                &["init holds", "reject set invariant low", "  arg 0 = 10"],
+                &[
+                    "init holds",
+                    "reject set invariant low",
+                    "  arg 0 = 1*",
+                    "  @x+0: 0?",
+                ],
                 1,
             ),
-            // the first state of the property is one, and the first argument is zero
+            // the property holds before, and zero breaks it
             (
                 SETS,
                 SET_SOME,
@@ -269,7 +274,7 @@ fn what_a_handler_breaks_is_named(rt: HostRuntime) -> Result<(), Fail> {
                     "init holds",
                     "reject set property some",
                     "  arg 0 = 0",
-                    "  x = 1",
+                    "  x = *",
                 ],
                 1,
             ),
@@ -280,7 +285,7 @@ fn what_a_handler_breaks_is_named(rt: HostRuntime) -> Result<(), Fail> {
                     "init holds",
                     "reject set state x",
                     "  arg 0 = 0",
-                    "  @x+0: 01",
+                    "  @x+0: *",
                 ],
                 1,
             ),
@@ -302,7 +307,7 @@ fn results_are_compared(rt: HostRuntime) -> Result<(), Fail> {
                 &[
                     "init holds",
                     "reject get result",
-                    "  @x+0: 01",
+                    "  @x+0: *",
                     "reject low result",
                     "  @x+0: 04",
                     "reject part undefined",
@@ -333,7 +338,8 @@ fn handlers_stand_in_the_order_of_the_specification(rt: HostRuntime) -> Result<(
                     "init holds",
                     "accept raise",
                     "reject put state x",
-                    "  arg 0 = 0",
+                    "  arg 0 = *",
+                    "  @x+0: ?",
                 ],
                 1,
             ),
@@ -359,11 +365,16 @@ fn entries_of_maps_are_written_and_shown(rt: HostRuntime) -> Result<(), Fail> {
     let wrong = first_wrong(
         &rt,
         &[
-            // the property holds before, since the other entry is zero
+            // the property holds before, so that the other entry is not nine
             (
                 FILLS,
                 FILLED,
-                &["init holds", "reject fill property apart", "  t[0] = 5"],
+                &[
+                    "init holds",
+                    "reject fill property apart",
+                    "  t[0] = 5",
+                    "  t[1] = ?",
+                ],
                 1,
             ),
             (
@@ -372,11 +383,11 @@ fn entries_of_maps_are_written_and_shown(rt: HostRuntime) -> Result<(), Fail> {
                 &["init holds", "accept keep", "accept fill"],
                 0,
             ),
-            // the first memory whose two parts differ
+            // the two parts of the memory differ
             (
                 FILLS,
                 MOVED,
-                &["init holds", "reject keep state t", "  @x+0: 01"],
+                &["init holds", "reject keep state t", "  @x+0: *"],
                 1,
             ),
         ],

@@ -1,7 +1,7 @@
 //! Calls of the outside that fail: loads, and puts that take a part of what they are given.
 
 use crate::calls::{Outcome, text_of, verify, verify_with, words_of};
-use crate::counter_texts::{COUNTER, COUNTS, MARKED, THREE};
+use crate::counter_texts::{COUNTER, COUNTS, MARKED};
 use hk_io::{CallList, FileList, MemShelf, MemSink, PutList};
 use hk_verify::run_words;
 use std::alloc::{AllocError, Global};
@@ -65,7 +65,7 @@ fn is_told(alloc: Global, failure: &Failure) -> Result<bool, AllocError> {
     let spec = text_of(alloc, COUNTS)?;
     let failing = vec![in alloc; failure.failing]?;
     let cuts = vec![in alloc; failure.cut]?;
-    let outcome = verify_with(alloc, kernel, spec, failing, cuts)?;
+    let outcome = verify_with(alloc, kernel, spec, &[], failing, cuts)?;
     Ok(outcome.status == failure.status && outcome.sink.bytes() == failure.shown.as_bytes())
 }
 
@@ -155,13 +155,6 @@ const FAILURES: &[Failure] = &[
         status: 6,
     },
     Failure {
-        kernel: THREE,
-        failing: 9,
-        cut: (1, 4),
-        shown: "wide",
-        status: 3,
-    },
-    Failure {
         kernel: UNENDED,
         failing: 9,
         cut: (1, 6),
@@ -187,7 +180,7 @@ fn nothing_is_loaded_after_a_refused_load(rt: HostRuntime) -> Result<(), Fail> {
     let failing = vec![in alloc; 1, 3]?;
     let mut shelf = MemShelf::new(FileList::from_vec(files), CallList::from_vec(failing));
     let mut sink = MemSink::with_room(alloc, 100, PutList::from_vec(Vec::new(alloc)))?;
-    let words = words_of(alloc)?;
+    let words = words_of(alloc, &[])?;
     // the first call of the shelf fails, and is the only one of its run; so the third is the load of S in the next run
     let first = run_words(alloc, &words, &mut shelf, &mut sink);
     let second = run_words(alloc, &words, &mut shelf, &mut sink);
@@ -206,7 +199,7 @@ fn an_absent_file_is_a_failed_load(rt: HostRuntime) -> Result<(), Fail> {
         CallList::from_vec(Vec::new(alloc)),
     );
     let mut sink = MemSink::with_room(alloc, 100, PutList::from_vec(Vec::new(alloc)))?;
-    let words = words_of(alloc)?;
+    let words = words_of(alloc, &[])?;
     let answer = run_words(alloc, &words, &mut shelf, &mut sink);
     assert_eq!(rt; sink.bytes(), b"read fault S\n".as_slice());
     assert_eq!(rt; answer.status, 5);

@@ -1,4 +1,4 @@
-//! Handlers that are decided by all cases.
+//! Handlers of few cases.
 
 use crate::calls::first_wrong;
 use crate::counter_texts::{COUNTER, COUNTS, FLIPPED, MARKED, NEVER, RENAMED, UNSTORED};
@@ -19,18 +19,17 @@ fn a_counter_is_accepted_or_rejected(rt: HostRuntime) -> Result<(), Fail> {
                 &["init holds", "reject tick undefined", "  @ticks+0: 7f"],
                 1,
             ),
-            // an even number is raised and flipped alike
+            // an even number is raised and flipped alike, and zero is even
             (
                 FLIPPED,
                 COUNTS,
-                &["init holds", "reject tick state ticks", "  @ticks+0: 01"],
+                &["init holds", "reject tick state ticks", "  @ticks+0: *"],
                 1,
             ),
-            // the memory of all zeros is the first case
             (
                 UNSTORED,
                 COUNTS,
-                &["init holds", "reject tick state ticks"],
+                &["init holds", "reject tick state ticks", "  @ticks+0: ?"],
                 1,
             ),
         ],
@@ -73,7 +72,7 @@ fn a_declared_function_is_called_as_a_hook_alone(rt: HostRuntime) -> Result<(), 
 }
 
 #[test]
-fn all_cases_of_arguments_are_tried(rt: HostRuntime) -> Result<(), Fail> {
+fn arguments_are_part_of_a_case(rt: HostRuntime) -> Result<(), Fail> {
     let wrong = first_wrong(
         &rt,
         &[

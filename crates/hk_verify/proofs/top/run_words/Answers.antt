@@ -8,3 +8,6 @@ returns-in-Some-behind_run-clause-usage g c = λ none. absurd (has_form (bytes_o
 
 pub returns-in-None-clause-ran : goal.returns-in-None-clause-ran
 returns-in-None-clause-ran g c = λ kernel function arguments is. absurd (c.in-None.ensures.none kernel function arguments is)
+
+pub returns-in-None-clause-meaning : goal.returns-in-None-clause-meaning
+returns-in-None-clause-meaning g c = λ kernel spec budget is. absurd (c.in_default.ensures.none kernel spec budget is)

@@ -7,7 +7,7 @@ use Rattle.hk_verify.proofs.verdicts.decide_all.Goals as goal
 
 pub loop-place-init : goal.loop-place-init
 loop-place-init g c = record {
-  so_far = none_yet (view_module c.args.kernel.now) (view_spec c.args.spec.now) c.args.verdicts.now.items _ c.requires.empty;
+  so_far = none_yet c.args.budget (view_module c.args.kernel.now) (view_spec c.args.spec.now) c.args.verdicts.now.items _ c.requires.empty;
   room = refl;
   counted = c.requires.unused;
   still = refl;
@@ -16,12 +16,12 @@ loop-place-init g c = record {
 pub returns-in_err-decide_next-clause-cut : goal.returns-in_err-decide_next-clause-cut
 returns-in_err-decide_next-clause-cut g c =
     let p = err_from_is_err_and c.from_residual.result c.from_residual.ensures.1 in
-    rw p.1 (is_cut_at (view_module c.args.kernel.now) (view_spec c.args.spec.now) c.as_slice-transitions.result.now c.loop-place.place c.index-transitions-place.result _ _ _ _ _
+    rw p.1 (is_cut_at c.args.budget (view_module c.args.kernel.now) (view_spec c.args.spec.now) c.as_slice-transitions.result.now c.loop-place.place c.index-transitions-place.result _ _ _ _ _
     (ap (map view_transition) c.as_slice-transitions.ensures) c.loop-place-test.true c.index-transitions-place.is c.loop-place.invariant.so_far c.in_err-decide_next.ensures.cut)
 
 pub loop-place-preserved : goal.loop-place-preserved
 loop-place-preserved g c = record {
-  so_far = goes_on_at (view_module c.args.kernel.now) (view_spec c.args.spec.now) c.as_slice-transitions.result.now c.loop-place.place c.index-transitions-place.result _ _ _ _ _
+  so_far = goes_on_at c.args.budget (view_module c.args.kernel.now) (view_spec c.args.spec.now) c.as_slice-transitions.result.now c.loop-place.place c.index-transitions-place.result _ _ _ _ _
       (ap (map view_transition) c.as_slice-transitions.ensures) c.loop-place-test.true c.index-transitions-place.is c.loop-place.invariant.so_far c.in_ok-decide_next.ensures.whole;
   room = c.decide_next.ensures.room ∙ c.loop-place.invariant.room;
   counted = c.decide_next.ensures.counted ∙ ap (λ n. n + 1) c.loop-place.invariant.counted;

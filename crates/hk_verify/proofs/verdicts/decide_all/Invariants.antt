@@ -8,7 +8,7 @@ use Rattle.hk_verify.proofs.verdicts.decide_all.Given as goal
 -- the handlers so far have right verdicts, and their lines are shown
 abbrev pub invariant-loop-place : goal.invariant-loop-place
 invariant-loop-place g l = record {
-  so_far : SoFar (view_module l.kernel) (view_spec l.spec) (take l.place (map view_transition l.transitions)) l.verdicts.items (g.O.Sink.shown l.fn.out) (g.O.Sink.shown l.out);
+  so_far : SoFar l.budget (view_module l.kernel) (view_spec l.spec) (take l.place (map view_transition l.transitions)) l.verdicts.items (g.O.Sink.shown l.fn.out) (g.O.Sink.shown l.out);
   room : vec_capacity l.verdicts ≡ vec_capacity l.fn.verdicts;
   counted : vec_len l.verdicts ≡ l.place;
   still : g.O.Sink.faults l.out ≡ g.O.Sink.faults l.fn.out;

@@ -1,17 +1,12 @@
 use Rattle.ir_ast.specs.ProgramView.{view_module}
 use Rattle.spec_tree.specs.View.{view_spec, view_transition}
-use Rattle.hk_try.specs.Widths.{IsNarrow}
-use Rattle.hk_verify.proofs.Shapes.{can_be_shown, each_at, within_at}
+use Rattle.hk_verify.proofs.Shapes.{can_be_shown, within_at}
 use Rattle.hk_verify.proofs.verdicts.verdict_of.Goals as goal
 
 pub decide-requires-clause-there : goal.decide-requires-clause-there
 decide-requires-clause-there c = within_at c.args.spec.now.transitions c.args.place (view_transition c.args.transition.now) c.requires.there
 
-pub decide-requires-clause-narrow : goal.decide-requires-clause-narrow
-decide-requires-clause-narrow c = λ l t laid there.
-    each_at (IsNarrow l.objects (view_spec c.args.spec.now)) (view_spec c.args.spec.now).transitions c.args.place t there (c.requires.narrow l laid)
-
 pub returns-in-Ok-clause-shown : goal.returns-in-Ok-clause-shown
 returns-in-Ok-clause-shown c =
-    can_be_shown (view_module c.args.kernel.now) c.layout-layout.result.now.objects (view_spec c.args.spec.now) (view_transition c.args.transition.now) c.in-Ok.verdict
+    can_be_shown _ (view_module c.args.kernel.now) c.layout-layout.result.now.objects (view_spec c.args.spec.now) (view_transition c.args.transition.now) c.in-Ok.verdict
     (c.in-Ok.ensures.right c.layout-layout.result.now (view_transition c.args.transition.now) c.layout-layout.ensures c.requires.there)

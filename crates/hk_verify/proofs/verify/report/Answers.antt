@@ -7,9 +7,9 @@ use Rattle.hk_verify.proofs.verify.report.Goals as goal
 
 pub returns : goal.returns
 returns g c =
-    whole_report _ (view_module c.args.inputs.now.kernel) (view_spec c.args.inputs.now.spec) c.args.init _ _ _ c.requires.opening
+    whole_report _ c.args.budget (view_module c.args.inputs.now.kernel) (view_spec c.args.inputs.now.spec) c.args.init _ _ _ c.requires.opening
     (where_ok c.put_init.result _ (sym c.is_err.ensures.value ∙ c.if-is_err.false) c.put_init.ensures.whole)
-    (where_ok c.decide_all.result _ (sym c.is_err-2.ensures.value ∙ c.if-is_err-2.false) c.decide_all.ensures.whole)
-    (where_ok c.decide_all.result _ (sym c.is_err-2.ensures.value ∙ c.if-is_err-2.false) c.decide_all.ensures.still
+    (where_ok c.decide_all-decided.result _ (sym c.is_err-2.ensures.value ∙ c.if-is_err-2.false) c.decide_all-decided.ensures.whole)
+    (where_ok c.decide_all-decided.result _ (sym c.is_err-2.ensures.value ∙ c.if-is_err-2.false) c.decide_all-decided.ensures.still
     ∙ where_ok c.put_init.result _ (sym c.is_err.ensures.value ∙ c.if-is_err.false) c.put_init.ensures.still)
     refl c.from_vec.ensures (c.status_of.ensures ∙ ap (verdict_status c.args.init) c.deref.ensures.value)

@@ -1,0 +1,6 @@
+mod Firsts
+mod Openings
+mod Ends
+mod Standings
+mod Settlements
+mod Trials

@@ -1,4 +1,0 @@
-mod Firsts
-mod Trials
-mod Bits
-mod Openings

@@ -1,0 +1,10 @@
+use Rattle.std.proofs.Common.{sym, ◌∙◌}
+use Rattle.std.proofs.lemmas.Slice.Eq.{bytes_eq-Decides}
+use Rattle.hk_verify.proofs.Forms.{named}
+use Rattle.hk_verify.proofs.words.allowed.Goals as goal
+
+pub returns-then-eq-clause-allowed : goal.returns-then-eq-clause-allowed
+returns-then-eq-clause-allowed c =
+    named c.args.options.now c.option-item.result c.number-item.result c.as_str-then-eq.result.now c.conflicts_of.result c.in-len2.len_at_least c.in-len2.len_below c.option-item.is c.number-item.is
+    (sym c.as_str.ensures.value ∙ (bytes_eq-Decides _ _).0 (sym c.eq.ensures ∙ c.if-eq.true)) c.as_str-then-eq.ensures.value
+    c.conflicts_of.ensures.number c.conflicts_of.ensures.some c.conflicts_of.ensures.most
