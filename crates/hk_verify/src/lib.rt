@@ -9,11 +9,7 @@ mod inputs;
 mod kernel;
 mod load;
 mod lrat;
-#[cfg(test)]
-mod lrat_tests;
 mod refusal;
-#[cfg(test)]
-mod run_tests;
 mod running;
 mod top;
 mod verdicts;

@@ -1,5 +1,4 @@
-//! Tests of the top call's `verify` over whole texts: a kernel and a specification go in, the lines that are shown and the
-//! exit status come out.
+//! Tests of the top call over whole texts: files go in, the lines that are shown and the exit status come out.
 //!
 //! They stand in a crate of their own, above the top call, so that it is not proved a second time for them. What they
 //! expect was written from the rules of the formats. Where several cases violate an obligation, any of them may be shown
@@ -21,6 +20,8 @@ mod initial_texts;
 #[cfg(test)]
 mod kernel_tests;
 #[cfg(test)]
+mod lrat_tests;
+#[cfg(test)]
 mod many_tests;
 #[cfg(test)]
 mod obligation_tests;
@@ -30,6 +31,8 @@ mod option_tests;
 mod outside_tests;
 #[cfg(test)]
 mod row_tests;
+#[cfg(test)]
+mod run_tests;
 #[cfg(test)]
 mod shown;
 #[cfg(test)]

@@ -1,8 +1,8 @@
 //! Whole calls of `lrat CNF PROOF` over files and output in memory.
 
-use crate::answer::Answer;
-use crate::run_words;
 use hk_io::{CallList, FileList, MemShelf, MemSink, PutList};
+use hk_verify::answer::Answer;
+use hk_verify::run_words;
 use std::test::Fail;
 
 /// A variable and its negation.
