@@ -1,0 +1,13 @@
+//! Tests of certificates over whole texts: a kernel, a specification and a certificate go in, what the certificate says comes out as
+//! numbers.
+//!
+//! They stand in a crate of their own, above the readers, so that these are not proved a second time for them. What they expect was written
+//! from the rules of the format.
+#![tactic(auto)]
+
+#[cfg(test)]
+mod good_tests;
+#[cfg(test)]
+mod refused_tests;
+#[cfg(test)]
+mod told;
