@@ -6,10 +6,10 @@ use crate::sketch::{Operand, Sketch, spelled};
 use std::alloc::{AllocError, Global};
 
 /// A form with its second operand.
-type Part = (Form, Operand);
+type Pair = (Form, Operand);
 
 /// A form, with an operand that suits it mostly.
-fn draw_part(sketch: &mut Sketch) -> Part {
+fn draw_part(sketch: &mut Sketch) -> Pair {
     match sketch.draws.below(6) {
         0 => {
             let form = form_of(&mut sketch.draws, SHIFTS);
@@ -42,7 +42,7 @@ fn flags_of(draws: &mut Draws, form: Form) -> &'static str {
 }
 
 /// Another form or another operand, where the line is turned.
-fn turned(sketch: &mut Sketch, drawn: Part, forms: &[Form]) -> Part {
+fn turned(sketch: &mut Sketch, drawn: Pair, forms: &[Form]) -> Pair {
     let (form, operand) = drawn;
     if !sketch.is_turned() {
         return drawn;
@@ -63,7 +63,7 @@ fn add_code(
     name: u64,
     flags: &str,
     first: u64,
-    drawn: Part,
+    drawn: Pair,
 ) -> Result<(), AllocError> {
     let (form, operand) = drawn;
     let word = form.word();
@@ -80,7 +80,7 @@ fn add_line(
     mark: &str,
     name: u64,
     first: u64,
-    drawn: Part,
+    drawn: Pair,
 ) -> Result<(), AllocError> {
     let (form, operand) = drawn;
     let (open, middle, close) = form.spelling();
@@ -114,7 +114,7 @@ pub fn compare(
     alloc: Global,
     sketch: &mut Sketch,
     first: u64,
-    drawn: Part,
+    drawn: Pair,
 ) -> Result<u64, AllocError> {
     let (form, operand) = drawn;
     let name = sketch.take_name();

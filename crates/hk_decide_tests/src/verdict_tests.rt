@@ -69,7 +69,7 @@ fn seen_of(alloc: Global, inputs: &Inputs, budget: u64, keep: bool) -> Result<Se
 }
 
 /// The same of texts.
-fn seen(
+fn verdict_of(
     alloc: Global,
     texts: (&[&str], &[&str]),
     budget: u64,
@@ -87,9 +87,9 @@ fn seen(
 fn proofs_are_kept_where_they_are_asked_for(rt: HostRuntime) -> Result<(), Fail> {
     let alloc = rt.alloc();
     // `undefined` and the field
-    let kept = seen(alloc, (COUNTER, COUNTS), 20_000, true)?;
+    let kept = verdict_of(alloc, (COUNTER, COUNTS), 20_000, true)?;
     assert_eq!(rt; kept, Seen::Accepted(2, 0));
-    let unkept = seen(alloc, (COUNTER, COUNTS), 20_000, false)?;
+    let unkept = verdict_of(alloc, (COUNTER, COUNTS), 20_000, false)?;
     assert_eq!(rt; unkept, Seen::Accepted(0, 0));
     Ok(())
 }
@@ -98,9 +98,9 @@ fn proofs_are_kept_where_they_are_asked_for(rt: HostRuntime) -> Result<(), Fail>
 fn few_cases_are_tried_where_the_budget_is_spent(rt: HostRuntime) -> Result<(), Fail> {
     let alloc = rt.alloc();
     // nothing is undefined in a product; the result needs more than one conflict
-    let small = seen(alloc, (SQUARES, IS_SQUARE_AND_MORE), 1, true)?;
+    let small = verdict_of(alloc, (SQUARES, IS_SQUARE_AND_MORE), 1, true)?;
     assert_eq!(rt; small, Seen::Accepted(1, 1));
-    let large = seen(alloc, (MULTIPLIES, IS_PRODUCT_AND_MORE), 1, true)?;
+    let large = verdict_of(alloc, (MULTIPLIES, IS_PRODUCT_AND_MORE), 1, true)?;
     assert_eq!(rt; large, Seen::Unknown(Obligation::ResultValue, 1));
     Ok(())
 }

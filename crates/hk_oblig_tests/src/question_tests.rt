@@ -52,7 +52,7 @@ fn a_property_breaks_where_nothing_is_counted(rt: HostRuntime) -> Result<(), Fai
 type Seen = (u64, usize, usize, bool, bool);
 
 /// What is seen of a question.
-fn seen(alloc: Global, question: &Question) -> Result<Seen, AllocError> {
+fn look_at(alloc: Global, question: &Question) -> Result<Seen, AllocError> {
     let clauses = question.clauses();
     let vars = clauses.vars();
     let count = clauses.len();
@@ -63,7 +63,7 @@ fn seen(alloc: Global, question: &Question) -> Result<Seen, AllocError> {
 
 /// Adds the instance of a quantifier that a question lacks: the answer, and what is seen before and behind.
 fn add_to_none(alloc: Global, question: &mut Question) -> Result<(bool, Seen, Seen), AllocError> {
-    let before = seen(alloc, question)?;
+    let before = look_at(alloc, question)?;
     let indices = SizeList::from_vec(vec![in alloc; 0]?);
     let instance = Instance::Tuple {
         quantifier: 1_000,
@@ -74,7 +74,7 @@ fn add_to_none(alloc: Global, question: &mut Question) -> Result<(bool, Seen, Se
         Err(AddFault::NoSuch) => true,
         _ => false,
     };
-    let behind = seen(alloc, question)?;
+    let behind = look_at(alloc, question)?;
     Ok((is_none, before, behind))
 }
 

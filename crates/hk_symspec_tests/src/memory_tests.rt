@@ -54,7 +54,7 @@ fn invariants_and_abstractions_agree(rt: HostRuntime) -> Result<(), Fail> {
 }
 
 /// How the runs end, where the terms tell them and the byte behind them.
-fn ends(
+fn run_ends(
     alloc: Global,
     texts: (&[&str], &[&str]),
     byte: (u32, u64),
@@ -83,7 +83,7 @@ fn all_return(
         returned: TIMES,
         stuck: 0,
     };
-    Ok(ends(alloc, texts, byte, sizes)? == Some(all))
+    Ok(run_ends(alloc, texts, byte, sizes)? == Some(all))
 }
 
 /// Whether some runs return and some are stuck, and the terms tell them.
@@ -93,7 +93,7 @@ fn some_return(
     byte: (u32, u64),
     sizes: Sizes,
 ) -> Result<bool, AllocError> {
-    match ends(alloc, texts, byte, sizes)? {
+    match run_ends(alloc, texts, byte, sizes)? {
         Some(ends) => Ok(
             0 < ends.returned
                 && 0 < ends.stuck
