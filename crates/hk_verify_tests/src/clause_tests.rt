@@ -49,7 +49,7 @@ fn duplicating_among_64_processes_is_accepted(rt: HostRuntime) -> Result<(), Fai
 
 #[test]
 fn a_bound_that_is_one_too_large_is_rejected(rt: HostRuntime) -> Result<(), Fail> {
-    let mut times = 0;
+    let mut times: u32 = 0;
     // the old descriptor is read behind the last process's, and the new one is in range
     for second in ["  arg 1 = 0", "  arg 1 = 1", "  arg 1 = 2", "  arg 1 = 3"] {
         let shown = [
@@ -66,7 +66,7 @@ fn a_bound_that_is_one_too_large_is_rejected(rt: HostRuntime) -> Result<(), Fail
             "  @file_refs+0: ?",
         ];
         if shows(rt.alloc(), DUPLICATES_PAST, DUPLICATED, &shown, 1)? {
-            times += 1;
+            times = times.saturating_add(1);
         }
     }
     assert_eq!(rt; times, 1);
