@@ -1,9 +1,12 @@
 mod Certainty
+mod Counts
 mod Forms
 mod Loading
 mod NumberWords
 mod Pushes
+mod Right
 mod Shapes
+mod Sizes
 mod SpecReading
 mod Whole
 mod WholeReading

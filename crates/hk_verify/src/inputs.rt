@@ -61,7 +61,7 @@ fn spec_for(alloc: Global, text: &[u8], kernel: &Kernel) -> Result<Spec, SpecSto
 }
 
 /// Reads both texts, the kernel's first.
-fn read_both(alloc: Global, kernel: &[u8], spec: &[u8]) -> Result<Inputs, TopFault>
+pub fn read_both(alloc: Global, kernel: &[u8], spec: &[u8]) -> Result<Inputs, TopFault>
     requires kernel { length kernel.now < 2 ^ 31 }
     requires spec { length spec.now < 2 ^ 31 }
     ensures read { ReadsTo kernel.now spec.now result }

@@ -1,11 +1,13 @@
 //! Tests of the top call's `verify` over whole texts: a kernel and a specification go in, the lines that are shown and the
-//! exit status come out.
+//! exit status come out; and of its `bench`, of which the number of handlers goes in.
 //!
 //! They stand in a crate of their own, above the top call, so that it is not proved a second time for them. What they
 //! expect was written from the rules of the formats. Where several cases violate an obligation, any of them may be shown
 //! (`shown`).
 #![tactic(auto)]
 
+#[cfg(test)]
+mod bench_tests;
 #[cfg(test)]
 mod calls;
 #[cfg(test)]
