@@ -1,6 +1,6 @@
 -- What an answer to `bench N` means: the counts of right verdicts for the generated texts, or the cause of a fault.
 
-use Rattle.std.specs.Prelude.{ℕ, ◌≡◌, ◌⊎◌, List, [], ◌∷◌, Option, Some, None, ⊤, codes, length, count_by, if◌then◌else◌}
+use Rattle.std.specs.Prelude.{ℕ, ◌≡◌, ◌⊎◌, List, [], ◌∷◌, Option, Some, None, Err, codes, length, count_by, if◌then◌else◌}
 use Rattle.std.specs.List.{flat_map, list_any}
 use Rattle.std.specs.Fmt.{decimal}
 use Rattle.hk_io.specs.Faults.{Rose}
@@ -15,9 +15,9 @@ use Rattle.hk_verify.specs.declared.answer.Answer.{Answer}
 use Rattle.hk_verify.specs.declared.answer.TopFault.{TopFault}
 use Rattle.hk_verify.specs.declared.answer.TopFault.TheVariants.{Usage, Read, Long, Kernel as OfKernel, Spec as OfSpec, Cnf as OfCnf, Call as OfCall, Memory, Write}
 use Rattle.hk_verify.specs.Words.{usual_conflicts}
-use Rattle.hk_verify.specs.Whole.{IsWhole, RefusesWhole}
+use Rattle.hk_verify.specs.Whole.{IsWhole}
 use Rattle.hk_verify.specs.Specifications.{IsTheSpec}
-use Rattle.hk_verify.specs.Inputs.{RefusesSecond}
+use Rattle.hk_verify.specs.Inputs.{ReadsTo}
 use Rattle.hk_verify.specs.Lines.{is_acceptance, is_rejection, is_unknown, is_memory}
 use Rattle.hk_verify.specs.Verdicts.{AreRight}
 use Rattle.hk_verify.specs.Answers.{SinkView, IsRefused}
@@ -69,29 +69,17 @@ CountsWith sink answer (Some (OfCnf f)) = ⊥
 CountsWith sink answer (Some (OfCall f)) = ⊥
 CountsWith sink answer (Some Memory) = ⊥
 
--- The generated texts spell this kernel and this specification for it.
-pub record IsWorkload (n : ℕ) (m : ModuleView) (spec : Spec) : Type 0 where
-  pub the_kernel : IsWhole (kernel_text n) m
-  pub the_spec : IsTheSpec m (spec_text n) spec
-
--- Right verdicts for the generated texts, one for each handler in the order of the specification.
+-- Right verdicts for the kernel and the specification that the generated texts spell, one for each handler in order.
 pub record AreDecided (n : ℕ) (verdicts : List Verdict) : Type 0 where
   pub module_ : ModuleView
   pub spec : Spec
-  pub workload : IsWorkload n module_ spec
+  pub the_kernel : IsWhole (kernel_text n) module_
+  pub the_spec : IsTheSpec module_ (spec_text n) spec
   pub right : AreRight usual_conflicts module_ spec spec.transitions verdicts
 
--- Why the call ended before its first line. Want of memory is the one free answer.
+-- Why the call ended before its first line: the refusal of a generated text, as for one that is loaded, or want of memory.
 abbrev pub HasBenchCause : ℕ → TopFault → Type 0
-HasBenchCause n (OfKernel f) = RefusesWhole (kernel_text n) f
-HasBenchCause n (OfSpec f) = RefusesSecond (kernel_text n) (spec_text n) f
-HasBenchCause n Memory = ⊤
-HasBenchCause n Usage = ⊥
-HasBenchCause n (Read w) = ⊥
-HasBenchCause n (Long w) = ⊥
-HasBenchCause n (OfCnf f) = ⊥
-HasBenchCause n (OfCall f) = ⊥
-HasBenchCause n Write = ⊥
+HasBenchCause n fault = ReadsTo (kernel_text n) (spec_text n) (Err fault)
 
 -- The workload was decided, and its counts put.
 pub record IsBenched (sink : SinkView) (n : ℕ) (answer : Answer) : Type 0 where
