@@ -1,11 +1,10 @@
 -- Lines of counts, put one after another.
 
-use Rattle.std.proofs.Common.{ℕ, ◌≡◌, List, [], ◌∷◌, ◌++◌, Option, length, codes, ap, sym, ◌∙◌, subst}
+use Rattle.std.proofs.Common.{ℕ, ◌≡◌, List, [], ◌∷◌, Option, length, codes, ap, ◌∙◌, subst}
 use Rattle.std.specs.Prelude.{count_by}
 use Rattle.std.specs.List.{flat_map}
-use Rattle.std.proofs.lemmas.List.{append-nil}
 use Rattle.hk_io.specs.Shown.{shown_with, ShowsPrefix}
-use Rattle.hk_io.proofs.Prefixes.{shown_with-append, prefix_append, prefix_behind}
+use Rattle.hk_io.proofs.Prefixes.{prefix_append, prefix_behind}
 use Rattle.hk_verdict.specs.declared.verdict.Verdict.{Verdict}
 use Rattle.hk_verify.specs.Lines.{is_acceptance, is_rejection, is_unknown, is_memory}
 use Rattle.hk_verify.specs.Bench.{count_line, bench_text}
@@ -17,13 +16,6 @@ here f x xs a s cut = prefix_append a s (f x) (flat_map f xs) cut
 -- So is one behind a piece that is shown.
 behind : {X : Type 0} (f : X → List ℕ) (x : X) (xs : List X) (a b s : Option (List ℕ)) → b ≡ shown_with a (f x) → ShowsPrefix b s (flat_map f xs) → ShowsPrefix a s (flat_map f (x ∷ xs))
 behind f x xs a b s shown cut = prefix_behind a b s (f x) (flat_map f xs) shown cut
-
--- The last piece is shown, and pieces behind one.
-last_shown : {X : Type 0} (f : X → List ℕ) (x : X) (a s : Option (List ℕ)) → s ≡ shown_with a (f x) → s ≡ shown_with a (flat_map f (x ∷ []))
-last_shown f x a s shown = shown ∙ ap (shown_with a) (sym (append-nil (f x)))
-
-more_shown : {X : Type 0} (f : X → List ℕ) (x : X) (xs : List X) (a b s : Option (List ℕ)) → b ≡ shown_with a (f x) → s ≡ shown_with b (flat_map f xs) → s ≡ shown_with a (flat_map f (x ∷ xs))
-more_shown f x xs a b s first rest = rest ∙ ap (λ o. shown_with o (flat_map f xs)) first ∙ shown_with-append a (f x) (flat_map f xs)
 
 -- The counts of verdicts.
 abbrev handlers : List Verdict → List ℕ × ℕ
@@ -48,7 +40,7 @@ is_shown word n count a s is shown = shown ∙ ap (λ k. shown_with a (count_lin
 is_cut : (word : List ℕ) (n count : ℕ) (a s : Option (List ℕ)) → n ≡ count → ShowsPrefix a s (count_line (word, n)) → ShowsPrefix a s (count_line (word, count))
 is_cut word n count a s is cut = subst (λ k. ShowsPrefix a s (count_line (word, k))) is cut
 
--- ---- the put of one line failed
+-- The put of one line failed, and those before it are shown.
 
 pub cut_at_handlers : (v : List Verdict) (a s : Option (List ℕ)) → ShowsPrefix a s (count_line (codes "handlers ", length v)) → ShowsPrefix a s (bench_text v)
 cut_at_handlers v a s cut = here count_line (handlers v) (accept v ∷ reject v ∷ unknown v ∷ memory v ∷ []) a s cut
@@ -84,15 +76,3 @@ cut_at_memory v n m k l a b c d e s accepted rejected unknowns is first second t
     (behind count_line (reject v) (unknown v ∷ memory v ∷ []) c d s (is_shown (codes "reject ") m _ c d rejected third)
     (behind count_line (unknown v) (memory v ∷ []) d e s (is_shown (codes "unknown ") k _ d e unknowns fourth)
     (here count_line (memory v) [] e s (is_cut (codes "memory ") l _ e s is cut)))))
-
--- ---- all lines are shown
-
-pub all_shown : (v : List Verdict) (n m k l : ℕ) (a b c d e s : Option (List ℕ)) → n ≡ count_by is_acceptance v → m ≡ count_by is_rejection v → k ≡ count_by is_unknown v → l ≡ count_by is_memory v
-    → b ≡ shown_with a (count_line (codes "handlers ", length v)) → c ≡ shown_with b (count_line (codes "accept ", n)) → d ≡ shown_with c (count_line (codes "reject ", m))
-    → e ≡ shown_with d (count_line (codes "unknown ", k)) → s ≡ shown_with e (count_line (codes "memory ", l)) → s ≡ shown_with a (bench_text v)
-all_shown v n m k l a b c d e s accepted rejected unknowns is first second third fourth fifth =
-    more_shown count_line (handlers v) (accept v ∷ reject v ∷ unknown v ∷ memory v ∷ []) a b s first
-    (more_shown count_line (accept v) (reject v ∷ unknown v ∷ memory v ∷ []) b c s (is_shown (codes "accept ") n _ b c accepted second)
-    (more_shown count_line (reject v) (unknown v ∷ memory v ∷ []) c d s (is_shown (codes "reject ") m _ c d rejected third)
-    (more_shown count_line (unknown v) (memory v ∷ []) d e s (is_shown (codes "unknown ") k _ d e unknowns fourth)
-    (last_shown count_line (memory v) e s (is_shown (codes "memory ") l _ e s is fifth)))))

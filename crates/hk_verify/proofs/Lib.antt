@@ -1,3 +1,4 @@
+mod Benched
 mod Certainty
 mod Counts
 mod Forms
@@ -6,7 +7,6 @@ mod NumberWords
 mod Pushes
 mod Right
 mod Shapes
-mod Sizes
 mod SpecReading
 mod Whole
 mod WholeReading

@@ -15,7 +15,8 @@ ghost use Rattle.hk_verify.specs.Words.{IsBench, bytes_of};
 ghost use Rattle.hk_verify.specs.Bench.{AreDecided, CountsWith, HasBenchCause, MeansBench, bench_status, bench_text, count_line};
 
 use crate::answer::{Answer, TopFault};
-use crate::inputs::{Inputs, read_both};
+use crate::inputs::{Inputs, SPEC_LIMIT, read_both};
+use crate::kernel::KERNEL_LIMIT;
 use crate::kinds::{
     count_acceptances, count_memory, count_rejections, count_unknowns, has_memory,
 };
@@ -29,7 +30,20 @@ use hk_seq::Seq;
 use hk_verdict::{InitVerdict, Verdict};
 use std::alloc::Global;
 
-/// The kernel and the specification of a workload of `n` handlers, whose texts are read as loaded ones are.
+/// Reads generated texts as loaded ones are read. No generated text is over the limit of a loaded one; memory would be wanted there.
+fn read_generated(alloc: Global, kernel: &[u8], spec: &[u8]) -> Result<Inputs, TopFault>
+    ensures read { ReadsTo kernel.now spec.now result }
+    ensures sorted { IfOk result (λ inputs. IsWellSorted (view_spec inputs.spec)) }
+    ensures fits { IfOk result (λ inputs. FitsModule (view_module inputs.kernel) (view_spec inputs.spec)) }
+{
+    if kernel.len() <= KERNEL_LIMIT as usize && spec.len() <= SPEC_LIMIT as usize {
+        read_both(alloc, kernel, spec)
+    } else {
+        Err(TopFault::Memory)
+    }
+}
+
+/// The kernel and the specification of a workload of `n` handlers.
 pub fn workload(alloc: Global, n: u64) -> Result<Inputs, TopFault>
     requires some { 1 ≤ n }
     requires few { n ≤ 64 }
@@ -38,7 +52,7 @@ pub fn workload(alloc: Global, n: u64) -> Result<Inputs, TopFault>
     ensures fits { IfOk result (λ inputs. FitsModule (view_module inputs.kernel) (view_spec inputs.spec)) }
 {
     match generate(alloc, n as u32) {
-        Ok(texts) => read_both(alloc, &texts.0, &texts.1),
+        Ok(texts) => read_generated(alloc, &texts.0, &texts.1),
         Err(_) => Err(TopFault::Memory),
     }
 }

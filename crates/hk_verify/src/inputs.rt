@@ -25,7 +25,7 @@ use spec_tree::Spec;
 use std::alloc::Global;
 
 /// The most bytes of a specification text: 1 MiB.
-const SPEC_LIMIT: u32 = 1_048_576;
+pub const SPEC_LIMIT: u32 = 1_048_576;
 
 /// A kernel and a specification that fits it.
 #[derive(Drop)]

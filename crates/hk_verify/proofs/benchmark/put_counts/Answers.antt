@@ -1,5 +1,5 @@
-use Rattle.hk_rows.proofs.Adding.{on_err, err_then, ok_then}
-use Rattle.hk_verify.proofs.Counts.{cut_at_handlers, cut_at_accept, cut_at_reject, cut_at_unknown, cut_at_memory, all_shown}
+use Rattle.hk_rows.proofs.Adding.{on_err, err_then}
+use Rattle.hk_verify.proofs.Counts.{cut_at_handlers, cut_at_accept, cut_at_reject, cut_at_unknown, cut_at_memory}
 use Rattle.hk_verify.proofs.benchmark.put_counts.Goals as goal
 
 pub returns-in_err-put_count-clause-cut : goal.returns-in_err-put_count-clause-cut
@@ -24,9 +24,3 @@ returns-clause-cut g c =
     err_then _ _ c.put_count-5.result (cut_at_memory c.args.verdicts.now c.count_acceptances.result c.count_rejections.result c.count_unknowns.result c.count_memory.result _ _ _ _ _ _
     c.count_acceptances.ensures c.count_rejections.ensures c.count_unknowns.ensures c.count_memory.ensures
     c.in_ok-put_count.ensures.whole c.in_ok-put_count-2.ensures.whole c.in_ok-put_count-3.ensures.whole c.in_ok-put_count-4.ensures.whole) c.put_count-5.ensures.cut
-
-pub returns-clause-whole : goal.returns-clause-whole
-returns-clause-whole g c =
-    ok_then _ _ c.put_count-5.result (all_shown c.args.verdicts.now c.count_acceptances.result c.count_rejections.result c.count_unknowns.result c.count_memory.result _ _ _ _ _ _
-    c.count_acceptances.ensures c.count_rejections.ensures c.count_unknowns.ensures c.count_memory.ensures
-    c.in_ok-put_count.ensures.whole c.in_ok-put_count-2.ensures.whole c.in_ok-put_count-3.ensures.whole c.in_ok-put_count-4.ensures.whole) c.put_count-5.ensures.whole
