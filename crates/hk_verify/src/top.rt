@@ -89,11 +89,13 @@ pub fn run_words<F: Shelf, O: Sink>(
     if let Some((cnf, proof)) = names_behind(words, "lrat") {
         return lrat(alloc, words, cnf, proof, shelf, out);
     }
-    if let Some((kernel, function, arguments)) = behind_run(words) {
-        return run(alloc, words, kernel, function, arguments, shelf, out);
+    if let Some(n) = behind_bench(words) {
+        return bench(alloc, words, n, out);
     }
-    match behind_bench(words) {
-        Some(n) => bench(alloc, words, n, out),
+    match behind_run(words) {
+        Some((kernel, function, arguments)) => {
+            run(alloc, words, kernel, function, arguments, shelf, out)
+        }
         None => refuse(alloc, out, words, TopFault::Usage),
     }
 }
