@@ -1,14 +1,44 @@
--- What an answer to `bench N` means, for the number of the words; and that it hides no fault of the outside.
+-- What an answer to `bench N` means: where its lines are shown or cut, for the number of the words, and that it hides no fault of the
+-- outside.
 
-use Rattle.std.proofs.Common.{ℕ, ◌≡◌, List, Option, Some, None, sym, subst}
+use Rattle.std.proofs.Common.{ℕ, true, false, ◌≡◌, List, Option, Some, None, Result, Ok, Err, OnOk, OnErr, ap, sym, ◌∙◌, subst}
+use Rattle.std.specs.Result.{is_err}
+use Rattle.hk_io.specs.Faults.{Rose}
+use Rattle.hk_io.specs.Shown.{shown_with, ShowsPrefix}
+use Rattle.hk_verdict.specs.declared.verdict.Verdict.{Verdict}
 use Rattle.hk_verify.specs.declared.answer.Answer.{Answer}
 use Rattle.hk_verify.specs.declared.answer.TopFault.{TopFault}
 use Rattle.hk_verify.specs.declared.answer.TopFault.TheVariants.{Usage, Read, Long, Kernel as OfKernel, Spec as OfSpec, Cnf as OfCnf, Call as OfCall, Memory, Write}
 use Rattle.hk_verify.specs.Words.{IsBench}
 use Rattle.hk_verify.specs.Inputs.{ShelfView, CountsLoads}
 use Rattle.hk_verify.specs.Answers.{SinkView, HidesNone}
-use Rattle.hk_verify.specs.Bench.{CountsWith, HasBenchCause, MeansBench}
+use Rattle.hk_verify.specs.Bench.{CountsWith, HasBenchCause, IsCounted, MeansBench, bench_status, bench_text}
 use Rattle.hk_verify.proofs.NumberWords.{one_size}
+use Rattle.hk_verify.proofs.Whole.{where_ok}
+
+-- What holds on Err holds where there is an error.
+where_err : {T E : Type 0} (r : Result T E) (P : Type 0) → is_err r ≡ true → OnErr r P → P
+where_err (Ok x) P wrong p = cc
+where_err (Err e) P wrong p = p
+
+-- The lines of the verdicts are shown.
+pub counted : {T E : Type 0} (sink : SinkView) (answer : Answer) (verdicts first second : List Verdict) (r : Result T E) → is_err r ≡ false → first ≡ verdicts → second ≡ verdicts → answer.verdicts ≡ verdicts
+    → answer.status ≡ bench_status second → OnOk r (sink.faults' ≡ sink.faults) → OnOk r (sink.shown' ≡ shown_with sink.shown (bench_text first)) → IsCounted sink answer
+counted sink answer verdicts first second r fine one other made status still shown = record {
+  says = where_ok r (sink.shown' ≡ shown_with sink.shown (bench_text first)) fine shown ∙ ap (λ v. shown_with sink.shown (bench_text v)) (one ∙ sym made);
+  still = where_ok r (sink.faults' ≡ sink.faults) fine still;
+  status = status ∙ ap bench_status (other ∙ sym made);
+}
+
+-- The put of one of them failed.
+pub uncounted : {T E : Type 0} (sink : SinkView) (answer : Answer) (verdicts first : List Verdict) (r : Result T E) → is_err r ≡ true → first ≡ verdicts → answer.verdicts ≡ verdicts → answer.fault ≡ Some Write
+    → answer.status ≡ 6 → OnErr r (Rose sink.faults sink.faults') → OnErr r (ShowsPrefix sink.shown sink.shown' (bench_text first)) → CountsWith sink answer answer.fault
+uncounted sink answer verdicts first r wrong one made is status failed cut =
+    subst (λ fault. CountsWith sink answer fault) (sym is) (record {
+      failed = where_err r (Rose sink.faults sink.faults') wrong failed;
+      cut = subst (λ v. ShowsPrefix sink.shown sink.shown' (bench_text v)) (one ∙ sym made) (where_err r (ShowsPrefix sink.shown sink.shown' (bench_text first)) wrong cut);
+      status = status;
+    })
 
 -- What an answer means for the number of the words it means for any that the words give.
 pub means_for : (sink : SinkView) (words : List (List ℕ)) (n m : ℕ) (answer : Answer) → IsBench words n → IsBench words m → MeansBench sink words n answer → MeansBench sink words m answer

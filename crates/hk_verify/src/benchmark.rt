@@ -20,8 +20,9 @@ use crate::kernel::KERNEL_LIMIT;
 use crate::kinds::{
     count_acceptances, count_memory, count_rejections, count_unknowns, has_memory,
 };
-use crate::refusal::{refuse, status};
+use crate::refusal::refuse;
 use crate::verdicts::verdicts_of;
+use crate::verify::cut;
 use crate::words::USUAL_CONFLICTS;
 use hk_gen::generate;
 use hk_io::{Sink, SinkFault};
@@ -109,19 +110,14 @@ fn report<O: Sink>(out: &mut O, verdicts: Vec<Verdict>) -> Answer
     ensures verdicts { result.verdicts ≡ verdicts.items }
     ensures init { result.init ≡ NotRun }
 {
-    match put_counts(out, &verdicts) {
-        Ok(()) => Answer {
-            status: status_of(&verdicts),
-            init: InitVerdict::NotRun,
-            verdicts: Seq::from_vec(verdicts),
-            fault: None,
-        },
-        Err(_) => Answer {
-            status: status(&TopFault::Write),
-            init: InitVerdict::NotRun,
-            verdicts: Seq::from_vec(verdicts),
-            fault: Some(TopFault::Write),
-        },
+    if put_counts(out, &verdicts).is_err() {
+        return cut(InitVerdict::NotRun, verdicts);
+    }
+    Answer {
+        status: status_of(&verdicts),
+        init: InitVerdict::NotRun,
+        verdicts: Seq::from_vec(verdicts),
+        fault: None,
     }
 }
 

@@ -69,8 +69,8 @@ fn status_of(init: InitVerdict, verdicts: &[Verdict]) -> u8
     }
 }
 
-/// The answer after a failed put: the verdicts up to the one whose line failed.
-fn cut(init: InitVerdict, verdicts: Vec<Verdict>) -> Answer
+/// The answer after a failed put, with these verdicts: in `verify` those up to the one whose line failed.
+pub fn cut(init: InitVerdict, verdicts: Vec<Verdict>) -> Answer
     ensures status { result.status ≡ 6 }
     ensures init { result.init ≡ init }
     ensures verdicts { result.verdicts ≡ verdicts.items }
