@@ -12,7 +12,7 @@ use Rattle.hk_verify.specs.declared.answer.TopFault.TheVariants.{Usage, Read, Lo
 use Rattle.hk_verify.specs.Words.{IsBench}
 use Rattle.hk_verify.specs.Inputs.{ShelfView, CountsLoads}
 use Rattle.hk_verify.specs.Answers.{SinkView, HidesNone}
-use Rattle.hk_verify.specs.Bench.{CountsWith, HasBenchCause, IsCounted, MeansBench, bench_status, bench_text}
+use Rattle.hk_verify.specs.Bench.{CountsWith, HasBenchCause, IsCounted, IsUncounted, MeansBench, bench_status, bench_text}
 use Rattle.hk_verify.proofs.NumberWords.{one_size}
 use Rattle.hk_verify.proofs.Whole.{where_ok}
 
@@ -34,11 +34,13 @@ counted sink answer verdicts first second r fine one other made status still sho
 pub uncounted : {T E : Type 0} (sink : SinkView) (answer : Answer) (verdicts first : List Verdict) (r : Result T E) → is_err r ≡ true → first ≡ verdicts → answer.verdicts ≡ verdicts → answer.fault ≡ Some Write
     → answer.status ≡ 6 → OnErr r (Rose sink.faults sink.faults') → OnErr r (ShowsPrefix sink.shown sink.shown' (bench_text first)) → CountsWith sink answer answer.fault
 uncounted sink answer verdicts first r wrong one made is status failed cut =
-    subst (λ fault. CountsWith sink answer fault) (sym is) (record {
+    let behind : ShowsPrefix sink.shown sink.shown' (bench_text first) = where_err r _ wrong cut in
+    let left : IsUncounted sink answer = record {
       failed = where_err r (Rose sink.faults sink.faults') wrong failed;
-      cut = subst (λ v. ShowsPrefix sink.shown sink.shown' (bench_text v)) (one ∙ sym made) (where_err r (ShowsPrefix sink.shown sink.shown' (bench_text first)) wrong cut);
+      cut = subst (λ v. ShowsPrefix sink.shown sink.shown' (bench_text v)) (one ∙ sym made) behind;
       status = status;
-    })
+    } in
+    subst (λ fault. CountsWith sink answer fault) (sym is) left
 
 -- What an answer means for the number of the words it means for any that the words give.
 pub means_for : (sink : SinkView) (words : List (List ℕ)) (n m : ℕ) (answer : Answer) → IsBench words n → IsBench words m → MeansBench sink words n answer → MeansBench sink words m answer
