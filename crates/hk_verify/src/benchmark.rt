@@ -17,9 +17,7 @@ ghost use Rattle.hk_verify.specs.Bench.{AreDecided, CountsWith, HasBenchCause, M
 use crate::answer::{Answer, TopFault};
 use crate::inputs::{Inputs, SPEC_LIMIT, read_both};
 use crate::kernel::KERNEL_LIMIT;
-use crate::kinds::{
-    count_acceptances, count_memory, count_rejections, count_unknowns, has_memory,
-};
+use crate::kinds::{count_acceptances, count_memory, count_rejections, count_unknowns, has_memory};
 use crate::refusal::refuse;
 use crate::verdicts::verdicts_of;
 use crate::verify::cut;

@@ -79,21 +79,30 @@ pub fn has_memory(verdicts: &[Verdict]) -> bool
 pub fn count_acceptances(verdicts: &[Verdict]) -> usize
     ensures { result ≡ count_by is_acceptance_of verdicts.now }
 {
-    verdicts.iter().filter(|verdict| is_acceptance(verdict)).count()
+    verdicts
+        .iter()
+        .filter(|verdict| is_acceptance(verdict))
+        .count()
 }
 
 /// How many verdicts are rejections.
 pub fn count_rejections(verdicts: &[Verdict]) -> usize
     ensures { result ≡ count_by is_rejection_of verdicts.now }
 {
-    verdicts.iter().filter(|verdict| is_rejection(verdict)).count()
+    verdicts
+        .iter()
+        .filter(|verdict| is_rejection(verdict))
+        .count()
 }
 
 /// How many handlers were not decided.
 pub fn count_unknowns(verdicts: &[Verdict]) -> usize
     ensures { result ≡ count_by is_unknown_of verdicts.now }
 {
-    verdicts.iter().filter(|verdict| is_unknown(verdict)).count()
+    verdicts
+        .iter()
+        .filter(|verdict| is_unknown(verdict))
+        .count()
 }
 
 /// How many verdicts are want of memory.

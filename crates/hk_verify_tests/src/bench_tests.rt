@@ -40,9 +40,11 @@ fn shows(
     verdicts: usize,
 ) -> Result<bool, AllocError> {
     let (answer, sink) = bench(alloc, behind, cuts)?;
-    Ok(sink.bytes() == shown.as_bytes()
-        && answer.status == status
-        && answer.verdicts.as_slice().len() == verdicts)
+    Ok(
+        sink.bytes() == shown.as_bytes()
+            && answer.status == status
+            && answer.verdicts.as_slice().len() == verdicts,
+    )
 }
 
 /// Sizes, and what is shown of them: every fourth handler is wrong.
