@@ -128,6 +128,13 @@ impl InstanceList {
         }
     }
 
+    /// These instances, in their order. It takes no memory.
+    pub fn from_vec(items: Vec<Instance>) -> InstanceList
+        ensures { result ≡ items.items }
+    {
+        InstanceList { items }
+    }
+
     // Puts an instance behind the others.
     pub(crate) fn push(&mut self, i: Instance) -> Result<(), AllocError>
         ensures ok { OnOk result (self.new ≡ self.old ++ i ∷ []) }

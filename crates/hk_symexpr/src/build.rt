@@ -20,7 +20,7 @@ use crate::known::{copied, joined, known_where};
 use crate::leaf::{argument, local, most_of, variable};
 use crate::load::{lasting, ready_behind, ready_where, sorted_indices};
 use crate::names::{Limit, Names};
-use crate::operators::{both, either};
+use crate::operators::{both, either, is_implication};
 use crate::ops::{number, sized};
 use crate::reads::SymReads;
 use hk_term::{TermId, Terms};
@@ -92,9 +92,15 @@ fn build<R: SymReads>(
         }
         Expr::Bin(kind, a, b) => {
             let a = term(alloc, t, reads, names, a)?;
-            let b = term(alloc, t, reads, names, b)?;
-            let made = join::binary(t, names, *kind, a, b)?;
-            Ok(made)
+            if is_implication(*kind) {
+                let b = term_where(alloc, t, reads, names, a, b)?;
+                let made = join::implied(t, names, a, b)?;
+                Ok(made)
+            } else {
+                let b = term(alloc, t, reads, names, b)?;
+                let made = join::binary(t, names, *kind, a, b)?;
+                Ok(made)
+            }
         }
         Expr::All(es) => {
             let made = all_hold(alloc, t, reads, names, es)?;

@@ -1,6 +1,6 @@
 //! The term of an operator from the terms of its operands.
 
-ghost use Rattle.std.specs.Prelude.{◌≡◌, ℕ, ◌^◌, ◌<◌, ◌≤◌, ◌&&◌, ◌||◌, not, length, IfOk};
+ghost use Rattle.std.specs.Prelude.{◌≡◌, ℕ, ◌^◌, ◌<◌, ◌≤◌, ◌&&◌, ◌||◌, not, length, IfOk, IsTrue};
 ghost use Rattle.hk_term.specs.Shape.{width};
 ghost use Rattle.hk_term.specs.Meaning.{Reading, value};
 ghost use Rattle.spec_tree.specs.Sorted.{FitsUn, FitsClass, FitsResize, class_of, class_width, resized_width};
@@ -134,6 +134,16 @@ fn not_below(t: &mut Terms, a: TermId, b: TermId) -> Result<TermId, AllocError>
     let less = ops::slt(t, a, b)?;
     let made = negation(t, less)?;
     Ok(made)
+}
+
+/// Whether an operator is an implication, whose second operand counts where the first is true.
+pub(crate) fn is_implication(kind: BinKind) -> bool
+    ensures { IsTrue result → kind ≡ BinKind.Implies }
+{
+    match kind {
+        BinKind::Implies => true,
+        _ => false,
+    }
 }
 
 /// An operator with two operands of one width.

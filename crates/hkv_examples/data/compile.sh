@@ -1,5 +1,5 @@
 #!/bin/sh
-# Compiles the C files of this folder anew, files.c with each patch too, and compares what clang writes with the texts
+# Compiles the C files of this folder and of profile/ anew, files.c with each patch too, and compares what clang writes with the texts
 # that are kept: a text that differs is shown and makes the status 1. With the word --write it replaces the texts.
 # CLANG names the compiler; without one nothing is compared.
 set -eu
@@ -25,9 +25,9 @@ compile() { # compile NAME FILE: what clang writes for the file, against NAME.ll
 }
 
 how=${1:-}
-for file in *.c; do
-  cp "$file" "$work/$file"
-  compile "${file%.c}" "$file"
+for file in *.c profile/*.c; do
+  cp "$file" "$work"
+  compile "${file%.c}" "$(basename "$file")"
 done
 for file in *.patch; do
   cp files.c "$work/files.c"

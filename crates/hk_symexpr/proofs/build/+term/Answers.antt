@@ -4,6 +4,7 @@ use Rattle.hk_term.specs.Meaning.{Reading}
 use Rattle.spec_tree.specs.Plain.{constant, argument, local, bound, entry, all_of, any_of, no_trees, unary, binary, choose, resize, for_all, exists}
 use Rattle.spec_tree.specs.declared.expr.Expr.TheVariants.{Const, Arg, Local, Bound, Entry, Kernel, Any, Un, Bin, Choose, Resize, ForAll, Exists, rolls-All, rolls-Const, rolls-Arg, rolls-Local, rolls-Bound, rolls-Entry, rolls-Kernel, rolls-Any, rolls-Un, rolls-Bin, rolls-Choose, rolls-Resize, rolls-ForAll, rolls-Exists}
 use Rattle.spec_tree.specs.declared.expr.Expr.TheVariants as variant
+use Rattle.spec_ast.specs.declared.kind.BinKind.TheVariants.{Implies}
 use Rattle.spec_tree.specs.declared.expr.Expr.TheFolds.{fold-roll-Expr}
 use Rattle.spec_tree.specs.View.{view_expr, view_exprs, view_expr_list, view_path, view_steps, view_step_list}
 use Rattle.spec_tree.specs.Sorted.{FieldSort, AreTruths, AreSteps, IsSorted, FitsClass, class_of, no_field}
@@ -324,13 +325,29 @@ build-returns-in_ok-made-in-Bin-clause-term g t c = λ base old lasts.
     let N = g.R.SymReads.named c.args.reads.now in
     let C = context_of N S in
     let view : view_expr (Bin c.in-Bin.kind c.in-Bin.a c.in-Bin.b) ≡ binary c.in-Bin.kind (view_expr c.in-Bin.a.value) (view_expr c.in-Bin.b.value) = rw (← rolls-Bin c.in-Bin.kind c.in-Bin.a c.in-Bin.b) (search (rules, fold-roll-Expr)) in
+    let kind : c.in-Bin.kind ≡ Implies = search rules in
     let here-0 : c.in-Bin.a.value ≡ c.deref-in-Bin.result.now = search rules in
-    let here-1 : c.in-Bin.b.value ≡ c.deref-in-Bin-2.result.now = search rules in
-    let tree : view_expr c.args.e.now ≡ binary c.in-Bin.kind (view_expr c.deref-in-Bin.result.now) (view_expr c.deref-in-Bin-2.result.now) = ap view_expr c.in-Bin.is ∙ view ∙ (λ i. binary c.in-Bin.kind (view_expr (here-0 i)) (view_expr (here-1 i))) in
-    subst (IsTermOf base C old S c.binary.new.t c.in_ok-made-in-Bin.made) (sym tree)
+    let here-1 : c.in-Bin.b.value ≡ c.deref-then-is_implication.result.now = search rules in
+    let tree : view_expr c.args.e.now ≡ binary Implies (view_expr c.deref-in-Bin.result.now) (view_expr c.deref-then-is_implication.result.now) = ap view_expr c.in-Bin.is ∙ view ∙ (λ i. binary (kind i) (view_expr (here-0 i)) (view_expr (here-1 i))) in
+    subst (IsTermOf base C old S c.implied.new.t c.in_ok-made-in-Bin.made) (sym tree)
     (c.in_ok-made-in-Bin.ensures.term base N old _ _
-    (term_kept base C old S c.term-in-Bin.new.t c.term-in-Bin-2.new.t c.in_ok-a-in-Bin.a _ c.term-in-Bin-2.ensures.keeps (c.in_ok-a-in-Bin.ensures.term base old lasts))
-    (c.in_ok-b-in-Bin.ensures.term base old (c.term-in-Bin.ensures.lasts base old lasts)))
+    (term_kept base C old S c.term-in-Bin.new.t c.term_where.new.t c.in_ok-a-in-Bin.a _ c.term_where.ensures.keeps (c.in_ok-a-in-Bin.ensures.term base old lasts))
+    (where_kept base C old S c.term-in-Bin.new.t c.term_where.new.t c.term_where.new.t c.term_where.new.t c.in_ok-a-in-Bin.a c.in_ok-b-in-Bin.b _ c.term_where.ensures.keeps c.in_ok-a-in-Bin.ensures.within (unchanged c.term_where.new.t)
+    (c.in_ok-b-in-Bin.ensures.term base old (c.term-in-Bin.ensures.lasts base old lasts))))
+
+pub build-returns-in_ok-made-in-Bin-2-clause-term : goal.build-returns-in_ok-made-in-Bin-2-clause-term
+build-returns-in_ok-made-in-Bin-2-clause-term g t c = λ base old lasts.
+    let S = scope_of c.args.names.now in
+    let N = g.R.SymReads.named c.args.reads.now in
+    let C = context_of N S in
+    let view : view_expr (Bin c.in-Bin.kind c.in-Bin.a c.in-Bin.b) ≡ binary c.in-Bin.kind (view_expr c.in-Bin.a.value) (view_expr c.in-Bin.b.value) = rw (← rolls-Bin c.in-Bin.kind c.in-Bin.a c.in-Bin.b) (search (rules, fold-roll-Expr)) in
+    let here-0 : c.in-Bin.a.value ≡ c.deref-in-Bin.result.now = search rules in
+    let here-1 : c.in-Bin.b.value ≡ c.deref-else-is_implication.result.now = search rules in
+    let tree : view_expr c.args.e.now ≡ binary c.in-Bin.kind (view_expr c.deref-in-Bin.result.now) (view_expr c.deref-else-is_implication.result.now) = ap view_expr c.in-Bin.is ∙ view ∙ (λ i. binary c.in-Bin.kind (view_expr (here-0 i)) (view_expr (here-1 i))) in
+    subst (IsTermOf base C old S c.binary.new.t c.in_ok-made-in-Bin-2.made) (sym tree)
+    (c.in_ok-made-in-Bin-2.ensures.term base N old _ _
+    (term_kept base C old S c.term-in-Bin.new.t c.term-else-is_implication.new.t c.in_ok-a-in-Bin.a _ c.term-else-is_implication.ensures.keeps (c.in_ok-a-in-Bin.ensures.term base old lasts))
+    (c.in_ok-b-in-Bin-2.ensures.term base old (c.term-in-Bin.ensures.lasts base old lasts)))
 
 pub build-returns-in_ok-made-in-Choose-clause-term : goal.build-returns-in_ok-made-in-Choose-clause-term
 build-returns-in_ok-made-in-Choose-clause-term g t c = λ base old lasts.
@@ -344,13 +361,13 @@ build-returns-in_ok-made-in-Choose-clause-term g t c = λ base old lasts.
     let tree : view_expr c.args.e.now ≡ choose (view_expr c.deref-in-Choose.result.now) (view_expr c.deref-in-Choose-2.result.now) (view_expr c.deref-in-Choose-3.result.now) = ap view_expr c.in-Choose.is ∙ view ∙ (λ i. choose (view_expr (here-0 i)) (view_expr (here-1 i)) (view_expr (here-2 i))) in
     subst (IsTermOf base C old S c.choice.new.t c.in_ok-made-in-Choose.made) (sym tree)
     (c.in_ok-made-in-Choose.ensures.term base N old _ _ _
-    (term_kept base C old S c.term-in-Choose.new.t c.term-in-Choose-2.new.t c.in_ok-test-in-Choose.test _ (followed c.term-in-Choose.new.t c.term_where.new.t c.term-in-Choose-2.new.t c.term_where.ensures.keeps c.term-in-Choose-2.ensures.keeps) (c.in_ok-test-in-Choose.ensures.term base old lasts))
-    (where_kept base C old S c.term-in-Choose.new.t c.term-in-Choose-2.new.t c.term_where.new.t c.term-in-Choose-2.new.t c.in_ok-test-in-Choose.test c.in_ok-a-in-Choose.a _ (followed c.term-in-Choose.new.t c.term_where.new.t c.term-in-Choose-2.new.t c.term_where.ensures.keeps c.term-in-Choose-2.ensures.keeps) c.in_ok-test-in-Choose.ensures.within c.term-in-Choose-2.ensures.keeps
+    (term_kept base C old S c.term-in-Choose.new.t c.term-in-Choose-2.new.t c.in_ok-test-in-Choose.test _ (followed c.term-in-Choose.new.t c.term_where-in-Choose.new.t c.term-in-Choose-2.new.t c.term_where-in-Choose.ensures.keeps c.term-in-Choose-2.ensures.keeps) (c.in_ok-test-in-Choose.ensures.term base old lasts))
+    (where_kept base C old S c.term-in-Choose.new.t c.term-in-Choose-2.new.t c.term_where-in-Choose.new.t c.term-in-Choose-2.new.t c.in_ok-test-in-Choose.test c.in_ok-a-in-Choose.a _ (followed c.term-in-Choose.new.t c.term_where-in-Choose.new.t c.term-in-Choose-2.new.t c.term_where-in-Choose.ensures.keeps c.term-in-Choose-2.ensures.keeps) c.in_ok-test-in-Choose.ensures.within c.term-in-Choose-2.ensures.keeps
     (c.in_ok-a-in-Choose.ensures.term base old (c.term-in-Choose.ensures.lasts base old lasts)))
-    (c.in_ok-b-in-Choose.ensures.term base old (c.term_where.ensures.lasts base old (c.term-in-Choose.ensures.lasts base old lasts))))
+    (c.in_ok-b-in-Choose.ensures.term base old (c.term_where-in-Choose.ensures.lasts base old (c.term-in-Choose.ensures.lasts base old lasts))))
 
 pub build-binary-requires-clause-first : goal.build-binary-requires-clause-first
-build-binary-requires-clause-first g t c = omega (arith, c.in_ok-a-in-Bin.ensures.within, c.term-in-Bin-2.ensures.keeps.longer)
+build-binary-requires-clause-first g t c = omega (arith, c.in_ok-a-in-Bin.ensures.within, c.term-else-is_implication.ensures.keeps.longer)
 
 pub build-binary-requires-clause-widths : goal.build-binary-requires-clause-widths
 build-binary-requires-clause-widths g t c =
@@ -358,10 +375,10 @@ build-binary-requires-clause-widths g t c =
     let C = context_of (g.R.SymReads.named c.args.reads.now) S in
     let view : view_expr (Bin c.in-Bin.kind c.in-Bin.a c.in-Bin.b) ≡ binary c.in-Bin.kind (view_expr c.in-Bin.a.value) (view_expr c.in-Bin.b.value) = rw (← rolls-Bin c.in-Bin.kind c.in-Bin.a c.in-Bin.b) (search (rules, fold-roll-Expr)) in
     let here-0 : c.in-Bin.a.value ≡ c.deref-in-Bin.result.now = search rules in
-    let here-1 : c.in-Bin.b.value ≡ c.deref-in-Bin-2.result.now = search rules in
-    let tree : view_expr c.args.e.now ≡ binary c.in-Bin.kind (view_expr c.deref-in-Bin.result.now) (view_expr c.deref-in-Bin-2.result.now) = ap view_expr c.in-Bin.is ∙ view ∙ (λ i. binary c.in-Bin.kind (view_expr (here-0 i)) (view_expr (here-1 i))) in
+    let here-1 : c.in-Bin.b.value ≡ c.deref-else-is_implication.result.now = search rules in
+    let tree : view_expr c.args.e.now ≡ binary c.in-Bin.kind (view_expr c.deref-in-Bin.result.now) (view_expr c.deref-else-is_implication.result.now) = ap view_expr c.in-Bin.is ∙ view ∙ (λ i. binary c.in-Bin.kind (view_expr (here-0 i)) (view_expr (here-1 i))) in
     let sorted = subst (IsSorted C) tree c.requires.sorted in
-    c.term-in-Bin-2.ensures.keeps.widths c.in_ok-a-in-Bin.a c.in_ok-a-in-Bin.ensures.within ∙ c.in_ok-a-in-Bin.ensures.width_is ∙ sorted.2 ∙ sym c.in_ok-b-in-Bin.ensures.width_is
+    c.term-else-is_implication.ensures.keeps.widths c.in_ok-a-in-Bin.a c.in_ok-a-in-Bin.ensures.within ∙ c.in_ok-a-in-Bin.ensures.width_is ∙ sorted.2 ∙ sym c.in_ok-b-in-Bin-2.ensures.width_is
 
 pub build-binary-requires-clause-kind : goal.build-binary-requires-clause-kind
 build-binary-requires-clause-kind g t c =
@@ -369,13 +386,13 @@ build-binary-requires-clause-kind g t c =
     let C = context_of (g.R.SymReads.named c.args.reads.now) S in
     let view : view_expr (Bin c.in-Bin.kind c.in-Bin.a c.in-Bin.b) ≡ binary c.in-Bin.kind (view_expr c.in-Bin.a.value) (view_expr c.in-Bin.b.value) = rw (← rolls-Bin c.in-Bin.kind c.in-Bin.a c.in-Bin.b) (search (rules, fold-roll-Expr)) in
     let here-0 : c.in-Bin.a.value ≡ c.deref-in-Bin.result.now = search rules in
-    let here-1 : c.in-Bin.b.value ≡ c.deref-in-Bin-2.result.now = search rules in
-    let tree : view_expr c.args.e.now ≡ binary c.in-Bin.kind (view_expr c.deref-in-Bin.result.now) (view_expr c.deref-in-Bin-2.result.now) = ap view_expr c.in-Bin.is ∙ view ∙ (λ i. binary c.in-Bin.kind (view_expr (here-0 i)) (view_expr (here-1 i))) in
+    let here-1 : c.in-Bin.b.value ≡ c.deref-else-is_implication.result.now = search rules in
+    let tree : view_expr c.args.e.now ≡ binary c.in-Bin.kind (view_expr c.deref-in-Bin.result.now) (view_expr c.deref-else-is_implication.result.now) = ap view_expr c.in-Bin.is ∙ view ∙ (λ i. binary c.in-Bin.kind (view_expr (here-0 i)) (view_expr (here-1 i))) in
     let sorted = subst (IsSorted C) tree c.requires.sorted in
-    subst (FitsClass (class_of c.in-Bin.kind)) (sym (c.term-in-Bin-2.ensures.keeps.widths c.in_ok-a-in-Bin.a c.in_ok-a-in-Bin.ensures.within ∙ c.in_ok-a-in-Bin.ensures.width_is)) sorted.3
+    subst (FitsClass (class_of c.in-Bin.kind)) (sym (c.term-else-is_implication.ensures.keeps.widths c.in_ok-a-in-Bin.a c.in_ok-a-in-Bin.ensures.within ∙ c.in_ok-a-in-Bin.ensures.width_is)) sorted.3
 
 pub build-choice-requires-clause-test : goal.build-choice-requires-clause-test
-build-choice-requires-clause-test g t c = omega (arith, c.in_ok-test-in-Choose.ensures.within, c.term_where.ensures.keeps.longer, c.term-in-Choose-2.ensures.keeps.longer)
+build-choice-requires-clause-test g t c = omega (arith, c.in_ok-test-in-Choose.ensures.within, c.term_where-in-Choose.ensures.keeps.longer, c.term-in-Choose-2.ensures.keeps.longer)
 
 pub build-choice-requires-clause-first : goal.build-choice-requires-clause-first
 build-choice-requires-clause-first g t c = omega (arith, c.in_ok-a-in-Choose.ensures.within, c.term-in-Choose-2.ensures.keeps.longer)
@@ -390,8 +407,8 @@ build-choice-requires-clause-truth g t c =
     let here-2 : c.in-Choose.b.value ≡ c.deref-in-Choose-3.result.now = search rules in
     let tree : view_expr c.args.e.now ≡ choose (view_expr c.deref-in-Choose.result.now) (view_expr c.deref-in-Choose-2.result.now) (view_expr c.deref-in-Choose-3.result.now) = ap view_expr c.in-Choose.is ∙ view ∙ (λ i. choose (view_expr (here-0 i)) (view_expr (here-1 i)) (view_expr (here-2 i))) in
     let sorted = subst (IsSorted C) tree c.requires.sorted in
-    c.term-in-Choose-2.ensures.keeps.widths c.in_ok-test-in-Choose.test (omega (arith, c.in_ok-test-in-Choose.ensures.within, c.term_where.ensures.keeps.longer))
-    ∙ c.term_where.ensures.keeps.widths c.in_ok-test-in-Choose.test c.in_ok-test-in-Choose.ensures.within ∙ c.in_ok-test-in-Choose.ensures.width_is ∙ sorted.1
+    c.term-in-Choose-2.ensures.keeps.widths c.in_ok-test-in-Choose.test (omega (arith, c.in_ok-test-in-Choose.ensures.within, c.term_where-in-Choose.ensures.keeps.longer))
+    ∙ c.term_where-in-Choose.ensures.keeps.widths c.in_ok-test-in-Choose.test c.in_ok-test-in-Choose.ensures.within ∙ c.in_ok-test-in-Choose.ensures.width_is ∙ sorted.1
 
 pub build-choice-requires-clause-widths : goal.build-choice-requires-clause-widths
 build-choice-requires-clause-widths g t c =
@@ -427,19 +444,13 @@ pub build-returns-in-Local-clause-keeps : goal.build-returns-in-Local-clause-kee
 build-returns-in-Local-clause-keeps g t c = unchanged c.args.t.now
 
 pub build-returns-in_err-a-in-Choose-clause-keeps : goal.build-returns-in_err-a-in-Choose-clause-keeps
-build-returns-in_err-a-in-Choose-clause-keeps g t c = followed c.args.t.now c.term-in-Choose.new.t c.term_where.new.t c.term-in-Choose.ensures.keeps c.term_where.ensures.keeps
-
-pub build-returns-in_err-b-in-Bin-clause-keeps : goal.build-returns-in_err-b-in-Bin-clause-keeps
-build-returns-in_err-b-in-Bin-clause-keeps g t c = followed c.args.t.now c.term-in-Bin.new.t c.term-in-Bin-2.new.t c.term-in-Bin.ensures.keeps c.term-in-Bin-2.ensures.keeps
+build-returns-in_err-a-in-Choose-clause-keeps g t c = followed c.args.t.now c.term-in-Choose.new.t c.term_where-in-Choose.new.t c.term-in-Choose.ensures.keeps c.term_where-in-Choose.ensures.keeps
 
 pub build-returns-in_err-b-in-Choose-clause-keeps : goal.build-returns-in_err-b-in-Choose-clause-keeps
-build-returns-in_err-b-in-Choose-clause-keeps g t c = followed c.args.t.now c.term_where.new.t c.term-in-Choose-2.new.t (followed c.args.t.now c.term-in-Choose.new.t c.term_where.new.t c.term-in-Choose.ensures.keeps c.term_where.ensures.keeps) c.term-in-Choose-2.ensures.keeps
-
-pub build-returns-in_err-made-in-Bin-clause-keeps : goal.build-returns-in_err-made-in-Bin-clause-keeps
-build-returns-in_err-made-in-Bin-clause-keeps g t c = followed c.args.t.now c.term-in-Bin-2.new.t c.binary.new.t (followed c.args.t.now c.term-in-Bin.new.t c.term-in-Bin-2.new.t c.term-in-Bin.ensures.keeps c.term-in-Bin-2.ensures.keeps) c.binary.ensures.keeps
+build-returns-in_err-b-in-Choose-clause-keeps g t c = followed c.args.t.now c.term_where-in-Choose.new.t c.term-in-Choose-2.new.t (followed c.args.t.now c.term-in-Choose.new.t c.term_where-in-Choose.new.t c.term-in-Choose.ensures.keeps c.term_where-in-Choose.ensures.keeps) c.term-in-Choose-2.ensures.keeps
 
 pub build-returns-in_err-made-in-Choose-clause-keeps : goal.build-returns-in_err-made-in-Choose-clause-keeps
-build-returns-in_err-made-in-Choose-clause-keeps g t c = followed c.args.t.now c.term-in-Choose-2.new.t c.choice.new.t (followed c.args.t.now c.term_where.new.t c.term-in-Choose-2.new.t (followed c.args.t.now c.term-in-Choose.new.t c.term_where.new.t c.term-in-Choose.ensures.keeps c.term_where.ensures.keeps) c.term-in-Choose-2.ensures.keeps) c.choice.ensures.keeps
+build-returns-in_err-made-in-Choose-clause-keeps g t c = followed c.args.t.now c.term-in-Choose-2.new.t c.choice.new.t (followed c.args.t.now c.term_where-in-Choose.new.t c.term-in-Choose-2.new.t (followed c.args.t.now c.term-in-Choose.new.t c.term_where-in-Choose.new.t c.term-in-Choose.ensures.keeps c.term_where-in-Choose.ensures.keeps) c.term-in-Choose-2.ensures.keeps) c.choice.ensures.keeps
 
 pub build-returns-in_err-made-in-Exists-clause-keeps : goal.build-returns-in_err-made-in-Exists-clause-keeps
 build-returns-in_err-made-in-Exists-clause-keeps g t c = followed c.args.t.now c.body-in-Exists.new.t c.exists.new.t c.body-in-Exists.ensures.keeps c.exists.ensures.keeps
@@ -453,11 +464,8 @@ build-returns-in_err-made-in-Resize-clause-keeps g t c = followed c.args.t.now c
 pub build-returns-in_err-made-in-Un-clause-keeps : goal.build-returns-in_err-made-in-Un-clause-keeps
 build-returns-in_err-made-in-Un-clause-keeps g t c = followed c.args.t.now c.term.new.t c.unary.new.t c.term.ensures.keeps c.unary.ensures.keeps
 
-pub build-returns-in_ok-made-in-Bin-clause-keeps : goal.build-returns-in_ok-made-in-Bin-clause-keeps
-build-returns-in_ok-made-in-Bin-clause-keeps g t c = followed c.args.t.now c.term-in-Bin-2.new.t c.binary.new.t (followed c.args.t.now c.term-in-Bin.new.t c.term-in-Bin-2.new.t c.term-in-Bin.ensures.keeps c.term-in-Bin-2.ensures.keeps) c.binary.ensures.keeps
-
 pub build-returns-in_ok-made-in-Choose-clause-keeps : goal.build-returns-in_ok-made-in-Choose-clause-keeps
-build-returns-in_ok-made-in-Choose-clause-keeps g t c = followed c.args.t.now c.term-in-Choose-2.new.t c.choice.new.t (followed c.args.t.now c.term_where.new.t c.term-in-Choose-2.new.t (followed c.args.t.now c.term-in-Choose.new.t c.term_where.new.t c.term-in-Choose.ensures.keeps c.term_where.ensures.keeps) c.term-in-Choose-2.ensures.keeps) c.choice.ensures.keeps
+build-returns-in_ok-made-in-Choose-clause-keeps g t c = followed c.args.t.now c.term-in-Choose-2.new.t c.choice.new.t (followed c.args.t.now c.term_where-in-Choose.new.t c.term-in-Choose-2.new.t (followed c.args.t.now c.term-in-Choose.new.t c.term_where-in-Choose.new.t c.term-in-Choose.ensures.keeps c.term_where-in-Choose.ensures.keeps) c.term-in-Choose-2.ensures.keeps) c.choice.ensures.keeps
 
 pub build-returns-in_ok-made-in-Exists-clause-keeps : goal.build-returns-in_ok-made-in-Exists-clause-keeps
 build-returns-in_ok-made-in-Exists-clause-keeps g t c = followed c.args.t.now c.body-in-Exists.new.t c.exists.new.t c.body-in-Exists.ensures.keeps c.exists.ensures.keeps
