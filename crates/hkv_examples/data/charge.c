@@ -2,6 +2,6 @@
 
 #include <stdint.h>
 
-uint64_t sys_charge(uint64_t pages, uint64_t rate) {
+uint32_t sys_charge(uint32_t pages, uint32_t rate) {
     return pages * (rate + 1);
 }

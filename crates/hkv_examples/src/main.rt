@@ -19,7 +19,12 @@ fn words_of(alloc: Global, line: &str) -> Result<Vec<String>, AllocError> {
 }
 
 /// Runs the top call on a line, and shows the line before it and the status behind it.
-fn show(rt: &HostRuntime, line: &str, shelf: &mut FolderShelf, out: &mut StdSink) -> io::Result<()> {
+fn show(
+    rt: &HostRuntime,
+    line: &str,
+    shelf: &mut FolderShelf,
+    out: &mut StdSink,
+) -> io::Result<()> {
     println!(rt; "$ hkv {line}")?;
     let words = words_of(rt.alloc(), line)?;
     let answer = run_words(rt.alloc(), &words, shelf, out);
