@@ -14,6 +14,3 @@ mod walk;
 
 pub use table::BitTable;
 pub use walk::blast;
-
-#[cfg(test)]
-mod tests;

@@ -17,6 +17,4 @@ pub mod compare;
 pub mod divide;
 pub mod multiply;
 pub mod shift;
-#[cfg(test)]
-mod tests;
 pub mod word;

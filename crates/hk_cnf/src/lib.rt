@@ -26,8 +26,3 @@ pub use gates::{GateSizes, Gates};
 pub use hint::Hint;
 pub use literal::Lit;
 pub use operation::{Operation, Placed};
-
-#[cfg(test)]
-mod gate_tests;
-#[cfg(test)]
-mod tests;

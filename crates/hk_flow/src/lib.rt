@@ -15,6 +15,3 @@ pub use dominance::Dominators;
 pub use making::dominators;
 pub use onwards::{forward, is_acyclic};
 pub use totals::sums;
-
-#[cfg(test)]
-mod tests;

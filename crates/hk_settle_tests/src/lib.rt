@@ -2,6 +2,10 @@
 #![tactic(auto)]
 
 #[cfg(test)]
+mod blast_tests;
+#[cfg(test)]
+mod circuit_tests;
+#[cfg(test)]
 mod goals;
 #[cfg(test)]
 mod settling_tests;

@@ -27,8 +27,3 @@ pub use compare::{eq, slt, ult};
 pub use quantify::for_all;
 pub use shift::{ashr, lshr, shl};
 pub use structure::{concat, extract, sign_extend, zero_extend};
-
-#[cfg(test)]
-mod shape_tests;
-#[cfg(test)]
-mod tests;

@@ -6,4 +6,8 @@
 #[cfg(test)]
 mod cdcl_tests;
 #[cfg(test)]
+mod cnf_tests;
+#[cfg(test)]
+mod gate_tests;
+#[cfg(test)]
 mod lrat_tests;

@@ -35,6 +35,3 @@ pub use ranges::is_between;
 pub use rows::binary;
 pub use value::{SymMade, SymPair, SymValue};
 pub use widths::{assume_sticks, freeze, select};
-
-#[cfg(test)]
-mod tests;

@@ -20,6 +20,3 @@ pub use operations::{apply_binary, apply_resize, apply_unary};
 pub use room::ValueRoom;
 pub use terms::Terms;
 pub use valuation::{ArrayTable, NumberTable, Valuation};
-
-#[cfg(test)]
-mod tests;

@@ -4,8 +4,16 @@
 #![tactic(auto)]
 
 #[cfg(test)]
+mod binary_tests;
+#[cfg(test)]
+mod division_tests;
+#[cfg(test)]
+mod machine_tests;
+#[cfg(test)]
 mod memory_tests;
 #[cfg(test)]
 mod number_tests;
 #[cfg(test)]
 mod runs;
+#[cfg(test)]
+mod value_tests;

@@ -22,6 +22,3 @@ pub use laws::{
 };
 pub use layout::Layout;
 pub use memory::{KMemory, ObjectBytes};
-
-#[cfg(test)]
-mod tests;

@@ -6,4 +6,6 @@
 #[cfg(test)]
 mod answer_tests;
 #[cfg(test)]
+mod memory_tests;
+#[cfg(test)]
 mod refusal_tests;

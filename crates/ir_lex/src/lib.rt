@@ -20,6 +20,3 @@ pub use drops::{begins_label, is_dropped_item, is_label, remaining};
 pub use lexer::tokens;
 pub use name::{plain_name, sigil_name};
 pub use token::{Token, TokenKind, TokenList};
-
-#[cfg(test)]
-mod tests;

@@ -16,6 +16,3 @@ mod stores;
 pub use frames::Frames;
 pub use state::{Computed, End, Frame, Head, Held, Machine, Next, Target, Written};
 pub use steps::{run, step};
-
-#[cfg(test)]
-mod tests;

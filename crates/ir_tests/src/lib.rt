@@ -6,6 +6,8 @@
 #[cfg(test)]
 mod body_tests;
 #[cfg(test)]
+mod lex_tests;
+#[cfg(test)]
 mod part_tests;
 #[cfg(test)]
 mod read_tests;

@@ -17,3 +17,5 @@ mod notes;
 mod value_tests;
 #[cfg(test)]
 mod walk;
+#[cfg(test)]
+mod whole_tests;

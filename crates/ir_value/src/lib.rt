@@ -21,10 +21,3 @@ pub use moves::{begin, step};
 pub use numbers::{binary, is_number_of};
 pub use value::{Made, StuckReason, Value};
 pub use widths::{convert, freeze, select};
-
-#[cfg(test)]
-mod division_tests;
-#[cfg(test)]
-mod number_tests;
-#[cfg(test)]
-mod tests;

@@ -13,6 +13,3 @@ mod questions;
 
 pub use head::{Head, Row};
 pub use numbers::TypeNumbers;
-
-#[cfg(test)]
-mod tests;

@@ -18,6 +18,3 @@ pub use expr::{arguments_at, expr_at};
 pub use front::{name_at, names_at, number_at, number_comma_at, past, strip};
 pub use stop::PartStop;
 pub use word::{is_name, member_of, number_of};
-
-#[cfg(test)]
-mod tests;

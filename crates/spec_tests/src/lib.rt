@@ -8,6 +8,8 @@ mod answer;
 #[cfg(test)]
 mod depth_tests;
 #[cfg(test)]
+mod expr_tests;
+#[cfg(test)]
 mod item_tests;
 #[cfg(test)]
 mod line_tests;

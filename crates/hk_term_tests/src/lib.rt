@@ -1,0 +1,13 @@
+//! Tests of terms, of their constructors and of symbolic values, by public calls alone: a table for each kind of operation.
+//!
+//! They stand in a crate of their own, so that what they test is not proved a second time for them.
+#![tactic(auto)]
+
+#[cfg(test)]
+mod shape_tests;
+#[cfg(test)]
+mod simplify_tests;
+#[cfg(test)]
+mod symvalue_tests;
+#[cfg(test)]
+mod term_tests;
