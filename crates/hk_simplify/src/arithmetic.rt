@@ -119,7 +119,7 @@ fn sub_of(t: &Terms, a: TermId, b: TermId) -> Form
     }
 }
 
-/// The product of two terms of one width, modulo 2 to the width. The factors keep their order.
+/// The product of two terms of one width, modulo 2 to the width.
 pub fn mul(t: &mut Terms, a: TermId, b: TermId) -> Result<TermId, AllocError>
     requires first { a < length t.old }
     requires second { b < length t.old }
@@ -159,7 +159,7 @@ fn mul_form(t: &Terms, a: TermId, b: TermId) -> Form
     } else if one_b {
         Form::Old(a)
     } else {
-        binary(t, TermKind::Mul, a, b)
+        commuted(t, TermKind::Mul, a, b)
     }
 }
 

@@ -285,13 +285,13 @@ const PRODUCTS: [Rule; 7] = [
         TermKind::Mul,
         Arg::Y,
         Arg::X,
-        Seen::Binary(TermKind::Mul, Arg::Y, Arg::X),
+        Seen::Binary(TermKind::Mul, Arg::X, Arg::Y),
     ),
     (
         TermKind::Mul,
         Arg::Ones,
         Arg::X,
-        Seen::Binary(TermKind::Mul, Arg::Ones, Arg::X),
+        Seen::Binary(TermKind::Mul, Arg::X, Arg::Ones),
     ),
 ];
 
