@@ -9,7 +9,7 @@ use Rattle.hk_inst.specs.declared.instance.Instance.{Instance}
 use Rattle.hk_inst.specs.Inputs.{number_in, completed, is_select, is_quantifier}
 use Rattle.hk_inst.specs.Truths.{IsTrue, is_among}
 use Rattle.hk_inst.specs.Exactness.{Exact}
-use Rattle.hk_inst.specs.Questions.{Asked}
+use Rattle.hk_inst.specs.Questions.{Asked, IsQuestion}
 use Rattle.hk_inst.specs.Growing.{IsGrowing, AreStepped}
 use Rattle.hk_inst.specs.Left.{AreOnce}
 use Rattle.hk_inst.specs.Adding.{Lengthened}
@@ -21,6 +21,9 @@ use Rattle.hk_inst.proofs.QuestionFacts.{known-within}
 use Rattle.hk_inst.proofs.Beginning.{question-of}
 use Rattle.hk_inst.proofs.ToCase.{goal-is-true}
 use Rattle.hk_inst.proofs.Whole.{exact}
+
+pub kept-question : (s : State) (q : Asked) → IsKept s → asked_of s ≡ q → IsQuestion q
+kept-question s q k e = subst IsQuestion e (question-of (asked_of s) s.first s.next k.growing k.stepped)
 
 pub kept-exact : (s : State) (q : Asked) (list : Clauses) → IsKept s → asked_of s ≡ q → list ≡ record { vars = s.gates.vars; clauses = s.gates.clauses } → Exact (λ v. nat_eq (value q.nodes q.goal v) 1) q.instances list
 kept-exact s q list k e same =

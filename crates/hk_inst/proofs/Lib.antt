@@ -20,7 +20,6 @@ pub mod FoundTerms
 pub mod Beginning
 pub mod KeptQuestions
 pub mod SetNumbers
-pub mod TestedGoals
 pub mod Subjects
 pub mod OurDemands
 pub mod Lengthening

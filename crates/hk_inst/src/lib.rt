@@ -27,8 +27,3 @@ mod violation;
 pub use instance::{Instance, InstanceList, SizeList};
 pub use question::Question;
 pub use subject::AddFault;
-
-#[cfg(test)]
-mod tests;
-#[cfg(test)]
-mod violation_tests;

@@ -7,6 +7,7 @@ ghost use Rattle.hk_inst.specs.declared.instance.Instance.{Instance};
 ghost use Rattle.hk_inst.specs.Inputs.{number_in, completed};
 ghost use Rattle.hk_inst.specs.Truths.{IsInstance, IsTrue, is_among};
 ghost use Rattle.hk_inst.specs.Exactness.{Exact};
+ghost use Rattle.hk_inst.specs.Questions.{IsQuestion};
 ghost use Rattle.hk_inst.specs.Growing.{IsGoal};
 ghost use Rattle.hk_inst.specs.Adding.{IsFault, Lengthened};
 ghost use Rattle.hk_inst.specs.Violations.{IsViolated};
@@ -84,11 +85,12 @@ impl Question {
 
     /// Adds an instance: the clauses are exact for the goal and the instances with this one behind the others. What stood
     /// before, clauses and numbers of reads and quantifiers among it, stays at the front; reads and quantifiers that come in
-    /// are numbered behind it. An instance that was added before changes nothing, and neither does one that is refused, be
-    /// it for its numbers or for want of memory. It takes the time of what comes in: neither the instances nor the table are
-    /// gone through. Each instance that comes in lowers the number of those that are left, and no call
-    /// raises it: rounds of solving and adding end.
+    /// are numbered behind it, by the rules alone (`IsQuestion`). An instance that was added before changes nothing, and
+    /// neither does one that is refused, be it for its numbers or for want of memory. It takes the time of what comes in:
+    /// neither the instances nor the table are gone through. Each instance that comes in lowers the number of those that are
+    /// left, and no call raises it: rounds of solving and adding end.
     pub fn add(&mut self, alloc: Global, instance: Instance) -> Result<(), AddFault>
+        ensures asked { IsQuestion self.old }
         ensures names { OnOk result (IsInstance self.old.nodes self.old.table instance) }
         ensures fault { IfErr result (λ f. IsFault self.old.nodes self.old.table instance f) }
         ensures refused { OnErr result (self.new ≡ self.old) }

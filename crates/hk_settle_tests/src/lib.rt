@@ -1,4 +1,6 @@
-//! Questions with answers that were found by hand, settled. Stands on the deciding loop and on the constructors of terms.
+//! Tests of circuits, of questions and of the deciding loop, by public calls alone. What they expect was found by hand.
+//!
+//! They stand in a crate of their own, so that what they test is not proved a second time for them.
 #![tactic(auto)]
 
 #[cfg(test)]
@@ -8,4 +10,10 @@ mod circuit_tests;
 #[cfg(test)]
 mod goals;
 #[cfg(test)]
+mod nodes;
+#[cfg(test)]
+mod question_tests;
+#[cfg(test)]
 mod settling_tests;
+#[cfg(test)]
+mod violation_tests;

@@ -6,8 +6,11 @@ use Rattle.hk_inst.proofs.InstancesLeft.{left-no_more, left-falls}
 use Rattle.hk_inst.specs.Questions.{Asked}
 use Rattle.hk_inst.specs.States.{asked_of}
 use Rattle.hk_inst.specs.Adding.{Lengthened}
-use Rattle.hk_inst.proofs.KeptQuestions.{goal-within, same-goal, longer-exact}
+use Rattle.hk_inst.proofs.KeptQuestions.{kept-question, goal-within, same-goal, longer-exact}
 use Rattle.hk_inst.proofs.question.Question.add.Goals as goal
+
+pub returns-clause-asked : goal.returns-clause-asked
+returns-clause-asked c = kept-question c.self.inside.state c.args.self.now c.self.invariant c.self.view_is
 
 pub returns-clause-goal : goal.returns-clause-goal
 returns-clause-goal c =

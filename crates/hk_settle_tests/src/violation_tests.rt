@@ -5,10 +5,9 @@ ghost use Rattle.hk_term.specs.Shape.{width};
 ghost use Rattle.hk_copy.specs.Reach.{Tests, AllPass};
 ghost use Rattle.hk_inst.specs.Growing.{IsGoal};
 
-use crate::instance::{Instance, InstanceList, SizeList};
-use crate::question::Question;
-use crate::required::put;
+use crate::nodes::put;
 use hk_cnf::{Assignment, ClauseList, Lit, satisfies};
+use hk_inst::{Instance, InstanceList, Question, SizeList};
 use hk_term::{Bound, BoundList, Node, TermId, TermKind, Terms};
 use std::alloc::{AllocError, Global};
 use std::test::Fail;

@@ -1,6 +1,6 @@
 use Rattle.std.proofs.Common.{refl}
-use Rattle.hk_inst.proofs.TestedGoals.{eights, eights-goal, none-pass}
-use Rattle.hk_inst.proofs.violation_tests.fives.Goals as goal
+use Rattle.hk_settle_tests.proofs.TestedGoals.{eights, eights-goal, none-pass}
+use Rattle.hk_settle_tests.proofs.violation_tests.fives.Goals as goal
 
 pub returns-clause-goal : goal.returns-clause-goal
 returns-clause-goal c =

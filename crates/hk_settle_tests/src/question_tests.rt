@@ -3,11 +3,9 @@
 ghost use Rattle.std.specs.Prelude.{◌≡◌, ◌<◌, [], length, IfOk};
 ghost use Rattle.hk_inst.specs.Growing.{IsGoal};
 
-use crate::instance::{Instance, SizeList};
-use crate::question::Question;
-use crate::required::put;
-use crate::subject::AddFault;
+use crate::nodes::put;
 use hk_cnf::{Assignment, satisfies};
+use hk_inst::{AddFault, Instance, Question, SizeList};
 use hk_term::{Bound, BoundList, Node, TermId, TermKind, Terms, UnaryKind, Valuation};
 use std::alloc::{AllocError, Global};
 use std::test::Fail;
