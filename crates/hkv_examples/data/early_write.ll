@@ -125,22 +125,22 @@ define dso_local i32 @sys_open(i32 noundef %0, i32 noundef %1) local_unnamed_add
   br i1 %14, label %15, label %23
 
 15:                                               ; preds = %10
-  %16 = zext i32 %1 to i64
-  %17 = getelementptr inbounds [16 x %struct.file], ptr @files, i64 0, i64 %16
-  %18 = load i32, ptr %17, align 8, !tbaa !11
-  %19 = icmp eq i32 %18, 0
-  br i1 %19, label %20, label %23
+  %16 = add i32 %1, 1
+  store i32 %16, ptr %12, align 4, !tbaa !9
+  %17 = zext i32 %1 to i64
+  %18 = getelementptr inbounds [16 x %struct.file], ptr @files, i64 0, i64 %17
+  %19 = load i32, ptr %18, align 8, !tbaa !11
+  %20 = icmp eq i32 %19, 0
+  br i1 %20, label %21, label %23
 
-20:                                               ; preds = %15
-  %21 = add i32 %1, 1
-  store i32 %21, ptr %12, align 4, !tbaa !9
-  store i32 1, ptr %17, align 8, !tbaa !11
-  %22 = getelementptr inbounds [16 x %struct.file], ptr @files, i64 0, i64 %16, i32 1
+21:                                               ; preds = %15
+  store i32 1, ptr %18, align 8, !tbaa !11
+  %22 = getelementptr inbounds [16 x %struct.file], ptr @files, i64 0, i64 %17, i32 1
   store i32 %3, ptr %22, align 4, !tbaa !13
   br label %23
 
-23:                                               ; preds = %10, %15, %2, %20
-  %24 = phi i32 [ 0, %20 ], [ -1, %2 ], [ -1, %15 ], [ -1, %10 ]
+23:                                               ; preds = %15, %10, %2, %21
+  %24 = phi i32 [ 0, %21 ], [ -1, %2 ], [ -1, %10 ], [ -1, %15 ]
   ret i32 %24
 }
 
@@ -248,7 +248,6 @@ define dso_local i32 @sys_transfer(i32 noundef %0, i32 noundef %1, i32 noundef %
   %24 = zext i32 %0 to i64
   %25 = getelementptr inbounds [8 x %struct.proc], ptr @procs, i64 0, i64 %23, i32 2, i64 %24
   %26 = load i32, ptr %25, align 4, !tbaa !9
-  store i32 0, ptr %25, align 4, !tbaa !9
   %27 = icmp eq i32 %26, 0
   br i1 %27, label %36, label %28
 
@@ -261,6 +260,7 @@ define dso_local i32 @sys_transfer(i32 noundef %0, i32 noundef %1, i32 noundef %
   br i1 %33, label %34, label %36
 
 34:                                               ; preds = %28
+  store i32 0, ptr %25, align 4, !tbaa !9
   store i32 %26, ptr %18, align 4, !tbaa !9
   %35 = getelementptr inbounds [16 x %struct.file], ptr @files, i64 0, i64 %30, i32 1
   store i32 %1, ptr %35, align 4, !tbaa !13

@@ -42,25 +42,18 @@ def inv_procs(kernel):
         ULE(kernel.procs[p].f1, NFD),
         ULE(kernel.procs[p].f2[d], NFILE)))
 
-# A descriptor of a process in use names an open file that the process owns, and one of another process is free.
-def prop_owner(state):
+# The running process is in use, and so is each one that has a descriptor.
+def prop_used(state):
     p = Var(PidT)
     d = Var(FdT)
     return And(
         state.proc_state(state.current) == USED,
-        ForAll([p, d], Implies(state.proc_fd(p, d) != 0, And(
-            state.proc_state(p) == USED,
-            state.file_refs(state.proc_fd(p, d) - 1) != 0,
-            state.file_owner(state.proc_fd(p, d) - 1) == p))))
+        ForAll([p, d], Implies(state.proc_fd(p, d) != 0, state.proc_state(p) == USED)))
 
-# The references of a file are the descriptors of its owner that name it.
-def prop_refs(state):
-    f = Var(FileT)
-    return ForAll([f], state.file_refs(f) ==
-        If(state.proc_fd(state.file_owner(f), 0) == f + 1, BitVecVal(1, 32), 0) +
-        If(state.proc_fd(state.file_owner(f), 1) == f + 1, BitVecVal(1, 32), 0) +
-        If(state.proc_fd(state.file_owner(f), 2) == f + 1, BitVecVal(1, 32), 0) +
-        If(state.proc_fd(state.file_owner(f), 3) == f + 1, BitVecVal(1, 32), 0))
+# No limit is over the descriptors that there are.
+def prop_limit(state):
+    p = Var(PidT)
+    return ForAll([p], ULE(state.proc_limit(p), NFD))
 
 def sys_create(state, pid):
     valid = And(ULT(pid, NPROC), state.proc_state(pid) == FREE)
@@ -87,7 +80,6 @@ def sys_switch(state, pid):
 def sys_open(state, fd, file):
     pid = state.current
     valid = And(
-        ULT(fd, NFD),
         ULT(fd, state.proc_limit(pid)),
         ULT(file, NFILE),
         state.proc_fd(pid, fd) == 0,
@@ -110,7 +102,6 @@ def sys_dup(state, oldfd, newfd):
     pid = state.current
     file = state.proc_fd(pid, oldfd) - 1
     valid = And(
-        ULT(newfd, NFD),
         ULT(newfd, state.proc_limit(pid)),
         state.proc_fd(pid, oldfd) != 0,
         state.proc_fd(pid, newfd) == 0)
@@ -123,7 +114,6 @@ def sys_transfer(state, fd, pid, newfd):
     file = state.proc_fd(state.current, fd) - 1
     valid = And(
         state.proc_state(pid) == USED,
-        ULT(newfd, NFD),
         ULT(newfd, state.proc_limit(pid)),
         state.proc_fd(pid, newfd) == 0,
         state.proc_fd(state.current, fd) != 0,
