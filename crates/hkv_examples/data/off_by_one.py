@@ -34,21 +34,27 @@ def equiv(kernel, state):
 def inv_current(kernel):
     return ULT(kernel.current, NPROC)
 
-# No limit is over the descriptors that there are, and a descriptor is free or names a file.
-def inv_procs(kernel):
+# No limit is over the descriptors that there are.
+def inv_limit(kernel):
+    p = Var(PidT)
+    return ForAll([p], ULE(kernel.procs[p].f1, NFD))
+
+# A descriptor is free or names a file.
+def inv_fd(kernel):
     p = Var(PidT)
     d = Var(FdT)
-    return ForAll([p, d], And(
-        ULE(kernel.procs[p].f1, NFD),
-        ULE(kernel.procs[p].f2[d], NFILE)))
+    return ForAll([p, d], ULE(kernel.procs[p].f2[d], NFILE))
 
 # The running process is in use, and so is each one that has a descriptor.
 def prop_used(state):
     p = Var(PidT)
-    d = Var(FdT)
     return And(
         state.proc_state(state.current) == USED,
-        ForAll([p, d], Implies(state.proc_fd(p, d) != 0, state.proc_state(p) == USED)))
+        ForAll([p], Or(state.proc_state(p) == USED, And(
+            state.proc_fd(p, 0) == 0,
+            state.proc_fd(p, 1) == 0,
+            state.proc_fd(p, 2) == 0,
+            state.proc_fd(p, 3) == 0))))
 
 # No limit is over the descriptors that there are.
 def prop_limit(state):
