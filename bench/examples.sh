@@ -1,10 +1,10 @@
 #!/bin/sh
-# examples.sh [SECONDS]: measures each handler of examples/files.c at two sizes, and the one whose budget is spent: user
-# time, elapsed time and peak of memory of each run. A run that takes more user time than SECONDS, 600 where none is
+# examples.sh [SECONDS]: measures each handler of examples/files.c at three sizes, and the one whose budget is spent: user
+# time, elapsed time and peak of memory of each run. A run that takes more user time than SECONDS, 60 where none is
 # given, is ended. It needs clang-16. HKV names the program; without it, it is the one that the launcher builds.
 set -eu
 root=$(cd "$(dirname "$0")/.." && pwd)
-seconds=${1:-600}
+seconds=${1:-60}
 work=$(mktemp -d)
 trap 'rm -rf "$work"' EXIT
 if [ -z "${HKV:-}" ]; then
@@ -28,7 +28,7 @@ print(f'{title}: {" ".join(words)}; {used.ru_utime:.2f} s of user time, {elapsed
 TIME
 }
 
-for size in '8 16' '64 128'; do
+for size in '8 16' '16 32' '64 128'; do
   # shellcheck disable=SC2086 # two numbers
   "$root/examples/sized.sh" $size "$work/sized"
   for handler in create exit switch open close dup transfer set_limit get_limit; do
