@@ -1,0 +1,3 @@
+float level;
+
+void set(int x) { level = x; }

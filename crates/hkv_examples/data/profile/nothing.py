@@ -1,0 +1,1 @@
+# A specification without handlers: it asks only that the kernel text is read.

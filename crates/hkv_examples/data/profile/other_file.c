@@ -1,0 +1,5 @@
+#include <stdint.h>
+
+int32_t probe(void);
+
+int32_t get(void) { return probe(); }

@@ -1,0 +1,5 @@
+#include <stdint.h>
+
+int32_t ticks;
+
+void tick(void) { ticks += 1; }

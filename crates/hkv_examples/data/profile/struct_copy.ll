@@ -1,0 +1,46 @@
+; ModuleID = 'struct_copy.c'
+source_filename = "struct_copy.c"
+target datalayout = "e-m:e-p270:32:32-p271:32:32-p272:64:64-i64:64-f80:128-n8:16:32:64-S128"
+target triple = "x86_64-pc-linux-gnu"
+
+%struct.entry = type { i32, i32, [4 x i32] }
+
+@table = dso_local local_unnamed_addr global [8 x %struct.entry] zeroinitializer, align 16
+
+; Function Attrs: mustprogress nofree nosync nounwind willreturn memory(readwrite, argmem: none, inaccessiblemem: none)
+define dso_local void @copy(i32 noundef %0, i32 noundef %1) local_unnamed_addr #0 {
+  %3 = or i32 %1, %0
+  %4 = icmp ult i32 %3, 8
+  br i1 %4, label %5, label %10
+
+5:                                                ; preds = %2
+  %6 = zext i32 %0 to i64
+  %7 = getelementptr inbounds [8 x %struct.entry], ptr @table, i64 0, i64 %6
+  %8 = zext i32 %1 to i64
+  %9 = getelementptr inbounds [8 x %struct.entry], ptr @table, i64 0, i64 %8
+  tail call void @llvm.memcpy.p0.p0.i64(ptr noundef nonnull align 8 dereferenceable(24) %7, ptr noundef nonnull align 8 dereferenceable(24) %9, i64 24, i1 false), !tbaa.struct !4
+  br label %10
+
+10:                                               ; preds = %5, %2
+  ret void
+}
+
+; Function Attrs: mustprogress nocallback nofree nounwind willreturn memory(argmem: readwrite)
+declare void @llvm.memcpy.p0.p0.i64(ptr noalias nocapture writeonly, ptr noalias nocapture readonly, i64, i1 immarg) #1
+
+attributes #0 = { mustprogress nofree nosync nounwind willreturn memory(readwrite, argmem: none, inaccessiblemem: none) "min-legal-vector-width"="0" "no-builtins" "no-trapping-math"="true" "stack-protector-buffer-size"="8" "target-cpu"="x86-64" "target-features"="+cx8,+fxsr,+mmx,+sse,+sse2,+x87" "tune-cpu"="generic" }
+attributes #1 = { mustprogress nocallback nofree nounwind willreturn memory(argmem: readwrite) }
+
+!llvm.module.flags = !{!0, !1, !2}
+!llvm.ident = !{!3}
+
+!0 = !{i32 1, !"wchar_size", i32 4}
+!1 = !{i32 8, !"PIC Level", i32 2}
+!2 = !{i32 7, !"PIE Level", i32 2}
+!3 = !{!"Debian clang version 16.0.6 (15~deb12u1)"}
+!4 = !{i64 0, i64 4, !5, i64 4, i64 4, !5, i64 8, i64 16, !9}
+!5 = !{!6, !6, i64 0}
+!6 = !{!"int", !7, i64 0}
+!7 = !{!"omnipotent char", !8, i64 0}
+!8 = !{!"Simple C/C++ TBAA"}
+!9 = !{!7, !7, i64 0}

@@ -1,0 +1,3 @@
+void printk(const char *text, ...);
+
+void tell(int x) { printk("x is %d", x); }
