@@ -5,8 +5,12 @@
 #![tactic(auto)]
 
 pub mod answer;
+mod benchmark;
+#[cfg(test)]
+mod benchmark_tests;
 mod inputs;
 mod kernel;
+mod kinds;
 mod load;
 mod lrat;
 mod refusal;

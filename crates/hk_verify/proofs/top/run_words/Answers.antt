@@ -11,3 +11,9 @@ returns-in-None-clause-ran g c = λ kernel function arguments is. absurd (c.in-N
 
 pub returns-in-None-clause-meaning : goal.returns-in-None-clause-meaning
 returns-in-None-clause-meaning g c = λ kernel spec budget is. absurd (c.in_default.ensures.none kernel spec budget is)
+
+pub returns-in-Some-behind_run-clause-counted : goal.returns-in-Some-behind_run-clause-counted
+returns-in-Some-behind_run-clause-counted g c = λ n is. absurd (c.in_default-behind_bench.ensures.none n is)
+
+pub returns-in-None-clause-counted : goal.returns-in-None-clause-counted
+returns-in-None-clause-counted g c = λ n is. absurd (c.in_default-behind_bench.ensures.none n is)
