@@ -11,6 +11,7 @@ use Rattle.hk_gen.specs.Workload.{kernel_text, spec_text}
 use Rattle.hk_rows.specs.Texts.{line}
 use Rattle.hk_verdict.specs.declared.verdict.Verdict.{Verdict}
 use Rattle.hk_verdict.specs.declared.verdict.InitVerdict.TheVariants.{NotRun}
+use Rattle.hk_verify.specs.declared.kinds.Counts.{Counts}
 use Rattle.hk_verify.specs.declared.answer.Answer.{Answer}
 use Rattle.hk_verify.specs.declared.answer.TopFault.{TopFault}
 use Rattle.hk_verify.specs.declared.answer.TopFault.TheVariants.{Usage, Read, Long, Kernel as OfKernel, Spec as OfSpec, Cnf as OfCnf, Call as OfCall, Memory, Write}
@@ -27,18 +28,32 @@ abbrev pub count_line : List ℕ × ℕ → List ℕ
 count_line count = line (count.0 ∷ decimal count.1 ∷ [])
 
 -- How many verdicts there are, and how many of each kind.
-abbrev pub counts_of : List Verdict → List (List ℕ × ℕ)
-counts_of verdicts =
-    (codes "handlers ", length verdicts)
-    ∷ (codes "accept ", count_by is_acceptance verdicts)
-    ∷ (codes "reject ", count_by is_rejection verdicts)
-    ∷ (codes "unknown ", count_by is_unknown verdicts)
-    ∷ (codes "memory ", count_by is_memory verdicts)
+abbrev pub counts_of : List Verdict → Counts
+counts_of verdicts = record {
+  handlers = length verdicts;
+  accepted = count_by is_acceptance verdicts;
+  rejected = count_by is_rejection verdicts;
+  unknown = count_by is_unknown verdicts;
+  memory = count_by is_memory verdicts;
+}
+
+-- The rows of counts in their order, a word and a number each.
+abbrev pub count_rows : Counts → List (List ℕ × ℕ)
+count_rows counts =
+    (codes "handlers ", counts.handlers)
+    ∷ (codes "accept ", counts.accepted)
+    ∷ (codes "reject ", counts.rejected)
+    ∷ (codes "unknown ", counts.unknown)
+    ∷ (codes "memory ", counts.memory)
     ∷ []
 
--- The lines of a workload: one for each count.
+-- Their lines.
+abbrev pub counts_text : Counts → List ℕ
+counts_text counts = flat_map count_line (count_rows counts)
+
+-- The lines of a workload.
 abbrev pub bench_text : List Verdict → List ℕ
-bench_text verdicts = flat_map count_line (counts_of verdicts)
+bench_text verdicts = counts_text (counts_of verdicts)
 
 -- The status of a workload whose lines are shown: a rejection and a handler that was not decided are counts like any other.
 abbrev pub bench_status : List Verdict → ℕ

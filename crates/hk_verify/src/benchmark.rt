@@ -1,6 +1,6 @@
 //! The command `bench N`: a generated workload is read, decided and counted.
 
-ghost use Rattle.std.specs.Prelude.{◌≡◌, ◌≤◌, ℕ, IfOk, IfErr, OnOk, OnErr};
+ghost use Rattle.std.specs.Prelude.{◌≡◌, ◌≤◌, IfOk, IfErr, OnOk, OnErr};
 ghost use Rattle.hk_io.specs.Faults.{Rose};
 ghost use Rattle.hk_io.specs.Shown.{shown_with, ShowsPrefix};
 ghost use Rattle.ir_ast.specs.ProgramView.{view_module};
@@ -11,13 +11,13 @@ ghost use Rattle.hk_gen.specs.Workload.{kernel_text, spec_text};
 ghost use Rattle.hk_verdict.specs.declared.verdict.InitVerdict.TheVariants.{NotRun};
 ghost use Rattle.hk_verify.specs.Inputs.{ReadsTo, ShelfView};
 ghost use Rattle.hk_verify.specs.Answers.{SinkView, HidesNone};
-ghost use Rattle.hk_verify.specs.Words.{IsBench, bytes_of};
-ghost use Rattle.hk_verify.specs.Bench.{AreDecided, CountsWith, HasBenchCause, MeansBench, bench_status, bench_text, count_line};
+ghost use Rattle.hk_verify.specs.Words.{bytes_of};
+ghost use Rattle.hk_verify.specs.Bench.{AreDecided, CountsWith, HasBenchCause, MeansBench, bench_status, count_line, counts_text};
 
 use crate::answer::{Answer, TopFault};
 use crate::inputs::{Inputs, SPEC_LIMIT, read_both};
 use crate::kernel::KERNEL_LIMIT;
-use crate::kinds::{count_acceptances, count_memory, count_rejections, count_unknowns, has_memory};
+use crate::kinds::{Counts, count_kinds, has_memory};
 use crate::refusal::refuse;
 use crate::verdicts::verdicts_of;
 use crate::verify::cut;
@@ -43,7 +43,7 @@ fn read_generated(alloc: Global, kernel: &[u8], spec: &[u8]) -> Result<Inputs, T
 }
 
 /// The kernel and the specification of a workload of `n` handlers.
-pub fn workload(alloc: Global, n: u64) -> Result<Inputs, TopFault>
+fn workload(alloc: Global, n: u64) -> Result<Inputs, TopFault>
     requires some { 1 ≤ n }
     requires few { n ≤ 64 }
     ensures read { ReadsTo (kernel_text n) (spec_text n) result }
@@ -80,18 +80,18 @@ fn put_count<O: Sink>(out: &mut O, word: &[u8], count: usize) -> Result<(), Sink
     put_line(out, &[Part::Text(word), Part::Decimal(count as u64)])
 }
 
-/// Puts the lines of a workload: how many handlers there are, and how many verdicts of each kind.
-fn put_counts<O: Sink>(out: &mut O, verdicts: &[Verdict]) -> Result<(), SinkFault>
-    ensures whole { OnOk result (O.shown out.new ≡ shown_with (O.shown out.old) (bench_text verdicts.now)) }
-    ensures cut { OnErr result (ShowsPrefix (O.shown out.old) (O.shown out.new) (bench_text verdicts.now)) }
+/// Puts the lines of counts.
+fn put_counts<O: Sink>(out: &mut O, counts: &Counts) -> Result<(), SinkFault>
+    ensures whole { OnOk result (O.shown out.new ≡ shown_with (O.shown out.old) (counts_text counts.now)) }
+    ensures cut { OnErr result (ShowsPrefix (O.shown out.old) (O.shown out.new) (counts_text counts.now)) }
     ensures failed { OnErr result (Rose (O.faults out.old) (O.faults out.new)) }
     ensures still { OnOk result (O.faults out.new ≡ O.faults out.old) }
 {
-    put_count(out, b"handlers ", verdicts.len())?;
-    put_count(out, b"accept ", count_acceptances(verdicts))?;
-    put_count(out, b"reject ", count_rejections(verdicts))?;
-    put_count(out, b"unknown ", count_unknowns(verdicts))?;
-    put_count(out, b"memory ", count_memory(verdicts))
+    put_count(out, b"handlers ", counts.handlers)?;
+    put_count(out, b"accept ", counts.accepted)?;
+    put_count(out, b"reject ", counts.rejected)?;
+    put_count(out, b"unknown ", counts.unknown)?;
+    put_count(out, b"memory ", counts.memory)
 }
 
 /// The status of a workload whose lines are shown: 7 where memory was refused for a handler, else 0.
@@ -108,7 +108,8 @@ fn report<O: Sink>(out: &mut O, verdicts: Vec<Verdict>) -> Answer
     ensures verdicts { result.verdicts ≡ verdicts.items }
     ensures init { result.init ≡ NotRun }
 {
-    if put_counts(out, &verdicts).is_err() {
+    let counts = count_kinds(&verdicts);
+    if put_counts(out, &counts).is_err() {
         return cut(InitVerdict::NotRun, verdicts);
     }
     Answer {
@@ -119,8 +120,9 @@ fn report<O: Sink>(out: &mut O, verdicts: Vec<Verdict>) -> Answer
     }
 }
 
-/// Decides a workload of `n` handlers and puts its counts.
-fn decide_and_count<O: Sink>(alloc: Global, words: &[String], n: u64, out: &mut O) -> Answer
+/// Does `bench N`, where the words are these: the texts of a workload of `n` handlers are generated and read, every handler is decided
+/// with the usual budget, and then the verdicts are counted. Nothing is loaded.
+pub fn bench<O: Sink>(alloc: Global, words: &[String], n: u64, out: &mut O) -> Answer
     requires some { 1 ≤ n }
     requires few { n ≤ 64 }
     ensures meaning { let sink : SinkView = record { shown = O.shown out.old; shown' = O.shown out.new; faults = O.faults out.old; faults' = O.faults out.new } in
@@ -133,18 +135,4 @@ fn decide_and_count<O: Sink>(alloc: Global, words: &[String], n: u64, out: &mut 
         Ok(verdicts) => report(out, verdicts),
         Err(fault) => refuse(alloc, out, words, fault),
     }
-}
-
-/// Does `bench N`, the words that name this number: the texts of a workload of so many handlers are generated and read, every handler is
-/// decided with the usual budget, and then the verdicts are counted. Nothing is loaded.
-pub fn bench<O: Sink>(alloc: Global, words: &[String], n: u64, out: &mut O) -> Answer
-    requires { IsBench (bytes_of words.now) n }
-    ensures meaning { (number : ℕ) → IsBench (bytes_of words.now) number →
-        let sink : SinkView = record { shown = O.shown out.old; shown' = O.shown out.new; faults = O.faults out.old; faults' = O.faults out.new } in
-        MeansBench sink (bytes_of words.now) number result }
-    ensures unhidden { (view : ShelfView) → view.after ≡ view.before →
-        let sink : SinkView = record { shown = O.shown out.old; shown' = O.shown out.new; faults = O.faults out.old; faults' = O.faults out.new } in
-        HidesNone view sink result }
-{
-    decide_and_count(alloc, words, n, out)
 }

@@ -1,10 +1,21 @@
-//! The kinds of verdicts: whether a list has one of a kind, and how many.
+//! The kinds of verdicts: whether a list has one of a kind, and how many of each there are.
 
 ghost use Rattle.std.specs.Prelude.{◌≡◌, count_by};
 ghost use Rattle.std.specs.List.{list_any};
 ghost use Rattle.hk_verify.specs.Lines.{is_acceptance as is_acceptance_of, is_memory as is_memory_of, is_rejection as is_rejection_of, is_unknown as is_unknown_of};
+ghost use Rattle.hk_verify.specs.Bench.{counts_of};
 
 use hk_verdict::Verdict;
+
+/// How many verdicts there are, and how many of each kind.
+#[derive(Clone, Copy)]
+pub struct Counts {
+    pub handlers: usize,
+    pub accepted: usize,
+    pub rejected: usize,
+    pub unknown: usize,
+    pub memory: usize,
+}
 
 /// Whether a verdict is an acceptance.
 fn is_acceptance(verdict: &Verdict) -> bool
@@ -76,7 +87,7 @@ pub fn has_memory(verdicts: &[Verdict]) -> bool
 }
 
 /// How many verdicts are acceptances.
-pub fn count_acceptances(verdicts: &[Verdict]) -> usize
+fn count_acceptances(verdicts: &[Verdict]) -> usize
     ensures { result ≡ count_by is_acceptance_of verdicts.now }
 {
     verdicts
@@ -86,7 +97,7 @@ pub fn count_acceptances(verdicts: &[Verdict]) -> usize
 }
 
 /// How many verdicts are rejections.
-pub fn count_rejections(verdicts: &[Verdict]) -> usize
+fn count_rejections(verdicts: &[Verdict]) -> usize
     ensures { result ≡ count_by is_rejection_of verdicts.now }
 {
     verdicts
@@ -96,7 +107,7 @@ pub fn count_rejections(verdicts: &[Verdict]) -> usize
 }
 
 /// How many handlers were not decided.
-pub fn count_unknowns(verdicts: &[Verdict]) -> usize
+fn count_unknowns(verdicts: &[Verdict]) -> usize
     ensures { result ≡ count_by is_unknown_of verdicts.now }
 {
     verdicts
@@ -106,8 +117,21 @@ pub fn count_unknowns(verdicts: &[Verdict]) -> usize
 }
 
 /// How many verdicts are want of memory.
-pub fn count_memory(verdicts: &[Verdict]) -> usize
+fn count_memory(verdicts: &[Verdict]) -> usize
     ensures { result ≡ count_by is_memory_of verdicts.now }
 {
     verdicts.iter().filter(|verdict| is_memory(verdict)).count()
+}
+
+/// Counts verdicts.
+pub fn count_kinds(verdicts: &[Verdict]) -> Counts
+    ensures { result ≡ counts_of verdicts.now }
+{
+    Counts {
+        handlers: verdicts.len(),
+        accepted: count_acceptances(verdicts),
+        rejected: count_rejections(verdicts),
+        unknown: count_unknowns(verdicts),
+        memory: count_memory(verdicts),
+    }
 }

@@ -6,8 +6,6 @@
 
 pub mod answer;
 mod benchmark;
-#[cfg(test)]
-mod benchmark_tests;
 mod inputs;
 mod kernel;
 mod kinds;

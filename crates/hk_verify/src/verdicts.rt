@@ -124,8 +124,8 @@ pub fn verdicts_of(
     let transitions = spec.transitions.as_slice();
     let mut verdicts = Vec::with_capacity(alloc, transitions.len())?;
     for (place, transition) in transitions.iter().enumerate() {
-        let verdict = verdict_of(alloc, kernel, spec, place as u32, transition, budget);
-        verdicts.push_reserved(verdict);
+        let decided = verdict_of(alloc, kernel, spec, place as u32, transition, budget);
+        verdicts.push_reserved(decided);
     }
     Ok(verdicts)
 }

@@ -154,6 +154,8 @@ pub fn numbers_of(alloc: Global, words: &[String]) -> Result<Vec<u64>, AllocErro
 /// The number of handlers of a generated workload, where the words are those of `bench`. It takes no memory.
 pub fn behind_bench(words: &[String]) -> Option<u64>
     ensures form { IfSome result (IsBench (bytes_of words.now)) }
+    ensures some { IfSome result (λ n. 1 ≤ n) }
+    ensures few { IfSome result (λ n. n ≤ 64) }
     ensures none { IfNone result ((n : ℕ) → IsBench (bytes_of words.now) n → ⊥) }
 {
     match words {

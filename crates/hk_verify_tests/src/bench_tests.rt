@@ -1,5 +1,9 @@
-//! The call `bench N`, over output in memory.
+//! The call `bench N`, over output in memory, and the texts of generated workloads.
 
+ghost use Rattle.std.specs.Prelude.{◌≤◌};
+
+use crate::calls::verify_with;
+use hk_gen::generate;
 use hk_io::{CallList, FileList, MemShelf, MemSink, PutList};
 use hk_verify::answer::Answer;
 use hk_verify::run_words;
@@ -129,6 +133,26 @@ fn a_failed_put_ends_the_lines(rt: HostRuntime) -> Result<(), Fail> {
     for (put, taken, shown, status) in CUTS {
         let cuts = vec![in rt.alloc(); (*put, *taken)]?;
         assert!(rt; shows(rt.alloc(), &["1"], cuts, shown, *status, 1)?);
+    }
+    Ok(())
+}
+
+/// Whether the texts of a workload of this size are read: `verify` comes to its first line, the put of which fails, so that no handler
+/// is decided. A refusal of a text would have the status 3.
+fn is_read(alloc: Global, n: u32) -> Result<bool, AllocError>
+    requires some { 1 ≤ n }
+    requires few { n ≤ 64 }
+{
+    let (kernel, spec) = generate(alloc, n)?;
+    let cuts = vec![in alloc; (1, 0)]?;
+    let outcome = verify_with(alloc, kernel, spec, &[], Vec::new(alloc), cuts)?;
+    Ok(outcome.status == 6)
+}
+
+#[test]
+fn the_texts_of_every_size_are_read(rt: HostRuntime) -> Result<(), Fail> {
+    for n in 1..65 {
+        assert!(rt; is_read(rt.alloc(), n)?);
     }
     Ok(())
 }

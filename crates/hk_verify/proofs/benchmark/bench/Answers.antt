@@ -1,5 +1,8 @@
-use Rattle.hk_verify.proofs.Benched.{means_for}
+use Rattle.hk_verify.proofs.Benched.{hides_counts, hides_fault}
 use Rattle.hk_verify.proofs.benchmark.bench.Goals as goal
 
-pub returns-clause-meaning : goal.returns-clause-meaning
-returns-clause-meaning g c = λ number is. means_for _ _ _ _ _ c.requires is c.decide_and_count.ensures.meaning
+pub returns-in-Ok-clause-unhidden : goal.returns-in-Ok-clause-unhidden
+returns-in-Ok-clause-unhidden g c = λ view still. hides_counts view _ c.report.result still c.report.ensures.counts
+
+pub returns-in-Err-clause-unhidden : goal.returns-in-Err-clause-unhidden
+returns-in-Err-clause-unhidden g c = λ view still. hides_fault view _ c.refuse.result c.args.n c.in-Err.fault still c.refuse.ensures.fault c.in-Err.ensures.fault

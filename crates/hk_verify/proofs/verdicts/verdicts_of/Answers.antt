@@ -13,8 +13,8 @@ loop-place-init c = record {
 
 pub loop-place-preserved : goal.loop-place-preserved
 loop-place-preserved c = record {
-  right = one_more_right c.args.budget (view_module c.args.kernel.now) (view_spec c.args.spec.now) c.as_slice-transitions.result.now c.loop-place.place c.index-transitions-place.result _ _ c.verdict_of-verdict.result
-      c.loop-place-test.true c.index-transitions-place.is c.push_reserved.ensures.items c.verdict_of-verdict.ensures.right c.loop-place.invariant.right;
+  right = one_more_right c.args.budget (view_module c.args.kernel.now) (view_spec c.args.spec.now) c.as_slice-transitions.result.now c.loop-place.place c.index-transitions-place.result _ _ c.verdict_of-decided.result
+      c.loop-place-test.true c.index-transitions-place.is c.push_reserved.ensures.items c.verdict_of-decided.ensures.right c.loop-place.invariant.right;
   room = subst (λ n. length c.as_slice-transitions.result.now ≤ n) (sym c.push_reserved.ensures.capacity) c.loop-place.invariant.room;
   counted = c.push_reserved.ensures.len ∙ ap (λ n. n + 1) c.loop-place.invariant.counted;
 }
