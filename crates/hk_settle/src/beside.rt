@@ -9,7 +9,7 @@ use hk_inst::{AddFault, Instance, InstanceList, Question, SizeList};
 use std::alloc::{AllocError, Global};
 
 /// Rounds before any instance comes in unasked.
-const FIRST: u64 = 8;
+const FIRST: u64 = 16;
 
 /// Rounds after which twice as many come in.
 const DOUBLING: u64 = 4;

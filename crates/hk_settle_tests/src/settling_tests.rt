@@ -169,6 +169,6 @@ fn instances_come_in_beside_those_that_are_violated(rt: HostRuntime) -> Result<(
     let question = question_of(rt.alloc(), Sample::Outlier)?;
     let settlement = settle_with_figures(rt.alloc(), question, 10_000)?;
     assert!(rt; settlement.figures.instances >= 128);
-    assert!(rt; settlement.figures.rounds <= 32);
+    assert!(rt; settlement.figures.rounds <= 40);
     Ok(())
 }
