@@ -20,6 +20,7 @@ use Rattle.hk_verify.specs.Inputs.{Asked, ShelfView, IsLoaded, AreRead, asked, k
 use Rattle.hk_verify.specs.Verdicts.{AreCut, IsRightFor}
 use Rattle.hk_verify.specs.Answers.{SinkView, Means, ReportsWith}
 use Rattle.hk_verify.specs.Headline.{IsHandler, AcceptsCorrect, RejectsRefuted, UnknownsSpent}
+use Rattle.hk_verify.proofs.Right.{AllZip-snoc}
 
 -- What is there is one thing.
 pub some_is : {A : Type 0} {x y : A} → Some x ≡ Some y → x ≡ y
@@ -35,13 +36,6 @@ at_place R [] more [] h x y all there here = cc
 at_place R [] more (b ∷ ys) h x y all there here = absurd all
 at_place R (a ∷ xs) more [] h x y all there here = absurd all
 
--- One more pair at the end of both.
-all_and_last : {A B : Type 0} (R : A → B → Type 0) (xs : List A) (ys : List B) (x : A) (y : B) → AllZip R xs ys → R x y → AllZip R (xs ++ x ∷ []) (ys ++ y ∷ [])
-all_and_last R [] [] x y all one = (one, tt)
-all_and_last R (a ∷ xs) (b ∷ ys) x y all one = (all.0, all_and_last R xs ys x y all.1 one)
-all_and_last R [] (b ∷ ys) x y all one = absurd all
-all_and_last R (a ∷ xs) [] x y all one = absurd all
-
 nothing_there : {A : Type 0} (xs : List A) (h : ℕ) (x : A) → xs ≡ [] → slice_get xs h ≡ Some x → ⊥
 nothing_there [] h x empty there = cc
 nothing_there (a ∷ xs) h x empty there = cc
@@ -52,7 +46,7 @@ of_cut : (budget : ℕ) (m : ModuleView) (spec : Spec) (verdicts : List Verdict)
 of_cut budget m spec verdicts shown shown' h t v cut there here =
     let parts : (cut.before ++ cut.failed ∷ []) ++ cut.behind ≡ spec.transitions = append_assoc cut.before (cut.failed ∷ []) cut.behind ∙ sym cut.handlers in
     at_place (IsRightFor budget m spec) (cut.before ++ cut.failed ∷ []) cut.behind (cut.front ++ cut.last ∷ []) h t v
-    (all_and_last (IsRightFor budget m spec) cut.before cut.front cut.failed cut.last cut.right cut.right_last)
+    (AllZip-snoc (IsRightFor budget m spec) cut.before cut.front cut.failed cut.last cut.right cut.right_last)
     (subst (λ ts. slice_get ts h ≡ Some t) (sym parts) there)
     (subst (λ vs. slice_get vs h ≡ Some v) cut.parts here)
 

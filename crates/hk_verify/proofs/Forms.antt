@@ -3,7 +3,7 @@
 use Rattle.std.proofs.Common.{ℕ, ◌<◌, ◌≤◌, ◌-◌, ◌≡◌, inr, Option, Some, None, IfSome, List, [], ◌∷◌, length, map, take, drop, slice_index_or, codes, String, Global, string_bytes, refl, ap, sym, ◌∙◌, subst, arith}
 use Rattle.std.specs.Fmt.{decimal}
 use Rattle.std.proofs.lemmas.List.{take_all}
-use Rattle.hk_verify.specs.Words.{AllowConflicts, IsVerify, most_conflicts}
+use Rattle.hk_verify.specs.Words.{AllowConflicts, IsBench, IsVerify, most_conflicts}
 
 -- A list of three is its first, second and third.
 three : {A : Type 0} (xs : List A) (a b c : A) → 3 ≤ length xs → length xs < 4
@@ -22,14 +22,28 @@ two (x ∷ []) a b long short first second = absurd (omega (arith, long))
 two (x ∷ y ∷ []) a b long short first second = sym (ap (λ v. v ∷ b ∷ []) first ∙ ap (λ v. x ∷ v ∷ []) second)
 two (x ∷ y ∷ z ∷ xs) a b long short first second = absurd (omega (arith, short))
 
+-- Two words, of which the second is the digits of a number.
+and_number : (words : List (String Global)) (a b : String Global) (command word : List ℕ) (n : ℕ) → 2 ≤ length words → length words < 3
+    → a ≡ slice_index_or words 0 a → b ≡ slice_index_or words 1 b → string_bytes a ≡ command → word ≡ string_bytes b → word ≡ decimal n
+    → map string_bytes words ≡ command ∷ decimal n ∷ []
+and_number words a b command word n long short first second is_command is_word spelled =
+    ap (map string_bytes) (two words a b long short first second) ∙ ap (λ v. v ∷ string_bytes b ∷ []) is_command ∙ ap (λ v. command ∷ v ∷ []) (sym is_word ∙ spelled)
+
 -- The option of conflicts.
 pub named : (options : List (String Global)) (a b : String Global) (word : List ℕ) (r : Option ℕ) → 2 ≤ length options → length options < 3
     → a ≡ slice_index_or options 0 a → b ≡ slice_index_or options 1 b → string_bytes a ≡ codes "--conflicts" → word ≡ string_bytes b
     → IfSome r (λ n. word ≡ decimal n) → IfSome r (λ n. 1 ≤ n) → IfSome r (λ n. n ≤ most_conflicts) → IfSome r (AllowConflicts (map string_bytes options))
 named options a b word None long short first second option number spelled some most = tt
 named options a b word (Some n) long short first second option number spelled some most =
-    let form = ap (map string_bytes) (two options a b long short first second) ∙ ap (λ v. v ∷ string_bytes b ∷ []) option ∙ ap (λ v. codes "--conflicts" ∷ v ∷ []) (sym number ∙ spelled) in
-    inr (record { form = form; some = some; most = most })
+    inr (record { form = and_number options a b (codes "--conflicts") word n long short first second option number spelled; some = some; most = most })
+
+-- The words of `bench`.
+pub bench_words : (words : List (String Global)) (a b : String Global) (word : List ℕ) (r : Option ℕ) → 2 ≤ length words → length words < 3
+    → a ≡ slice_index_or words 0 a → b ≡ slice_index_or words 1 b → string_bytes a ≡ codes "bench" → word ≡ string_bytes b
+    → IfSome r (λ n. word ≡ decimal n) → IfSome r (λ n. 1 ≤ n) → IfSome r (λ n. n ≤ 64) → IfSome r (IsBench (map string_bytes words))
+bench_words words a b word None long short first second command number spelled some few = tt
+bench_words words a b word (Some n) long short first second command number spelled some few =
+    record { form = and_number words a b (codes "bench") word n long short first second command number spelled; some = some; few = few }
 
 -- The bytes of three words.
 pub three_words : (words : List (String Global)) (a b c : String Global) (command kernel spec : List ℕ) → 3 ≤ length words → length words < 4

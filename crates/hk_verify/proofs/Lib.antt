@@ -1,8 +1,11 @@
+mod Benched
 mod Certainty
+mod Counts
 mod Forms
 mod Loading
 mod NumberWords
 mod Pushes
+mod Right
 mod Shapes
 mod SpecReading
 mod Whole

@@ -9,7 +9,7 @@ use Rattle.std.proofs.lemmas.Fmt.{decimal_injective, parse-decimal}
 use Rattle.std.proofs.lemmas.Slice.Eq.{bytes_eq-Decides}
 use Rattle.std.proofs.lemmas.List.{take_more, take_all, length-map, get_or-map, map-append}
 use Rattle.std.proofs.lemmas.List.Elements.{All-append}
-use Rattle.hk_verify.specs.Words.{AreNumbers, HasNoForm, bytes_of, most_conflicts}
+use Rattle.hk_verify.specs.Words.{AreNumbers, HasNoForm, IsBench, bytes_of}
 
 -- What is parsed of the digits of a number.
 pub parsed : {E : Type 0} (word : List ℕ) (r : Result ℕ E) (n : ℕ) → ParsesUnsigned 64 10 word r → n < 2 ^ 64 → word ≡ decimal n → r ≡ Ok n
@@ -32,9 +32,9 @@ not_parsed word r e h err n small spelled = clash (sym (parsed word r n h small 
     clash : {E : Type 0} {n : ℕ} {e : E} → Ok n ≡ Err e → ⊥
     clash e = cc
 
--- A word of conflicts has one number.
-pub conflicts_are : (word : List ℕ) (m n : ℕ) → word ≡ decimal m → m < 2 ^ 64 → n ≤ most_conflicts → word ≡ decimal n → m ≡ n
-conflicts_are word m n is small most also = decimal_injective m n small (omega (arith, most)) (sym is ∙ also)
+-- A word is the digits of one number.
+pub numbers_agree : (word : List ℕ) (m n most : ℕ) → word ≡ decimal m → m < 2 ^ 64 → most < 2 ^ 64 → n ≤ most → word ≡ decimal n → m ≡ n
+numbers_agree word m n most is small fits below also = decimal_injective m n small (omega (arith, fits, below)) (sym is ∙ also)
 
 -- The word at a place of the words.
 pub word_at : (words : List (String Global)) (i : ℕ) (word : String Global) (numbers : List ℕ) → i < length words → word ≡ slice_index_or words i word → bytes_of words ≡ map decimal numbers
@@ -104,3 +104,16 @@ number_all words i old numbers past spelled so_far =
 pub has_form : (words texts : List (List ℕ)) (kernel function : List ℕ) → words ≡ codes "run" ∷ kernel ∷ function ∷ texts → AreNumbers texts → HasNoForm words → ⊥
 has_form words texts kernel function form numbers none =
     none.no_run kernel function numbers.numbers (record { form = form ∙ ap (λ (l : List (List ℕ)). codes "run" ∷ kernel ∷ function ∷ l) numbers.spelled; numbers = numbers.small })
+
+-- Words of `bench` have one number.
+second : List (List ℕ) → List ℕ
+second (a ∷ b ∷ words) = b
+second (a ∷ []) = []
+second [] = []
+
+pub one_size : (words : List (List ℕ)) (n m : ℕ) → IsBench words n → IsBench words m → n ≡ m
+unfolding second
+one_size words n m one other =
+    let few = one.few in
+    let also = other.few in
+    decimal_injective n m (omega (arith, few)) (omega (arith, also)) (ap second (sym one.form ∙ other.form))

@@ -13,6 +13,7 @@ use Rattle.spec_tree.specs.declared.spec.Transition.{Transition as Handler}
 use Rattle.hk_verdict.specs.declared.verdict.Verdict.{Verdict}
 use Rattle.hk_verdict.specs.Report.{verdict_text, verdicts_text}
 use Rattle.hk_verify.specs.Verdicts.{Adds, AddsCut, AreRight, AreCut, IsRightFor}
+use Rattle.hk_verify.proofs.Right.{AllZip-snoc, step_at}
 
 -- What is shown with one text and then another is shown with both.
 pub shown_with-append : (s : Option (List ℕ)) (a b : List ℕ) → shown_with (shown_with s a) b ≡ shown_with s (a ++ b)
@@ -23,13 +24,6 @@ shown_with-append (Some text) a b = ap Some (append_assoc text a b)
 pub shown_with-nothing : (s : Option (List ℕ)) → s ≡ shown_with s []
 shown_with-nothing None = refl
 shown_with-nothing (Some text) = ap Some (sym (append-nil text))
-
--- The relation goes on to one more pair.
-AllZip-snoc : {A B : Type 0} (R : A → B → Type 0) (xs : List A) (ys : List B) (x : A) (y : B) → AllZip R xs ys → R x y → AllZip R (xs ++ x ∷ []) (ys ++ y ∷ [])
-AllZip-snoc R [] [] x y all one = (one, tt)
-AllZip-snoc R (a ∷ xs) (b ∷ ys) x y all one = (all.0, AllZip-snoc R xs ys x y all.1 one)
-AllZip-snoc R [] (b ∷ ys) x y all one = absurd all
-AllZip-snoc R (a ∷ xs) [] x y all one = absurd all
 
 zip-nothing : {A B : Type 0} (xs : List A) → zip {X = B} xs [] ≡ []
 zip-nothing [] = refl
@@ -98,13 +92,6 @@ split_at ts i t within there =
     let same : view_transition t ≡ slice_index_or plain i (view_transition t) = ap view_transition there ∙ sym (get_or-map view_transition ts i t (view_transition t) within) in
     let long = length-map ts view_transition in
     parts_at plain i (view_transition t) (omega (arith, within, long)) ∙ ap (λ u. take i plain ++ u ∷ drop (i + 1) plain) (sym same)
-
-step_at : (ts : List Handler) (i : ℕ) (t : Handler) → i < length ts → t ≡ slice_index_or ts i t → take (i + 1) (map view_transition ts) ≡ take i (map view_transition ts) ++ view_transition t ∷ []
-step_at ts i t within there =
-    let plain = map view_transition ts in
-    let same : view_transition t ≡ slice_index_or plain i (view_transition t) = ap view_transition there ∙ sym (get_or-map view_transition ts i t (view_transition t) within) in
-    let long = length-map ts view_transition in
-    take_more plain i (view_transition t) (omega (arith, within, long)) ∙ ap (λ u. take i plain ++ u ∷ []) (sym same)
 
 -- One more handler, by its place in the list.
 pub goes_on_at : (budget : ℕ) (m : ModuleView) (spec : Spec) (ts : List Handler) (i : ℕ) (t : Handler) (old new : List Verdict) (shown now next : Option (List ℕ))

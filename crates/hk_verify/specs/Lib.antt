@@ -1,4 +1,5 @@
 pub mod Answers
+pub mod Bench
 pub mod Headline
 pub mod Inputs
 pub mod Lines

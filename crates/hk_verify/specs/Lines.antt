@@ -92,6 +92,12 @@ fault_status (Call f) = 3
 fault_status Memory = 7
 fault_status Write = 6
 
+abbrev pub is_acceptance : Verdict → Bool
+is_acceptance (Accepted proofs) = true
+is_acceptance (Rejected o c) = false
+is_acceptance (Unknown o instances clauses log) = false
+is_acceptance NoMemory = false
+
 abbrev pub is_rejection : Verdict → Bool
 is_rejection (Accepted proofs) = false
 is_rejection (Rejected o c) = true

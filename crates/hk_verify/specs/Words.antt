@@ -40,6 +40,12 @@ pub record IsRun (words : List (List ℕ)) (kernel function : List ℕ) (argumen
   pub form : words ≡ codes "run" ∷ kernel ∷ function ∷ map decimal arguments
   pub numbers : All (λ n. n < 2 ^ 64) arguments
 
+-- The words `bench N`: N is the decimal digits of a number from 1 to 64.
+pub record IsBench (words : List (List ℕ)) (n : ℕ) : Type 0 where
+  pub form : words ≡ codes "bench" ∷ decimal n ∷ []
+  pub some : 1 ≤ n
+  pub few : n ≤ 64
+
 -- Each word is the decimal digits of a number below 2^64.
 pub record AreNumbers (words : List (List ℕ)) : Type 0 where
   pub numbers : List ℕ
@@ -51,3 +57,4 @@ pub record HasNoForm (words : List (List ℕ)) : Type 0 where
   pub no_verify : (kernel spec : List ℕ) (budget : ℕ) → IsVerify words kernel spec budget → ⊥
   pub no_lrat : (cnf proof : List ℕ) → IsLrat words cnf proof → ⊥
   pub no_run : (kernel function : List ℕ) (arguments : List ℕ) → IsRun words kernel function arguments → ⊥
+  pub no_bench : (n : ℕ) → IsBench words n → ⊥

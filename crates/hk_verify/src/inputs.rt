@@ -25,7 +25,7 @@ use spec_tree::Spec;
 use std::alloc::Global;
 
 /// The most bytes of a specification text: 1 MiB.
-const SPEC_LIMIT: u32 = 1_048_576;
+pub const SPEC_LIMIT: u32 = 1_048_576;
 
 /// A kernel and a specification that fits it.
 #[derive(Drop)]
@@ -61,7 +61,7 @@ fn spec_for(alloc: Global, text: &[u8], kernel: &Kernel) -> Result<Spec, SpecSto
 }
 
 /// Reads both texts, the kernel's first.
-fn read_both(alloc: Global, kernel: &[u8], spec: &[u8]) -> Result<Inputs, TopFault>
+pub fn read_both(alloc: Global, kernel: &[u8], spec: &[u8]) -> Result<Inputs, TopFault>
     requires kernel { length kernel.now < 2 ^ 31 }
     requires spec { length spec.now < 2 ^ 31 }
     ensures read { ReadsTo kernel.now spec.now result }

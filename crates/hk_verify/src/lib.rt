@@ -5,8 +5,10 @@
 #![tactic(auto)]
 
 pub mod answer;
+mod benchmark;
 mod inputs;
 mod kernel;
+mod kinds;
 mod load;
 mod lrat;
 mod refusal;

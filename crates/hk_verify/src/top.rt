@@ -1,19 +1,21 @@
 //! The one call that the program makes.
 
 ghost use Rattle.std.specs.Prelude.{◌≡◌, ◌∷◌, [], List, ℕ, IfSome, IfNone};
-ghost use Rattle.hk_verify.specs.Words.{HasNoForm, IsLrat, IsRun, IsVerify, bytes_of};
+ghost use Rattle.hk_verify.specs.Words.{HasNoForm, IsBench, IsLrat, IsRun, IsVerify, bytes_of};
 ghost use Rattle.hk_verify.specs.Inputs.{ShelfView};
 ghost use Rattle.hk_verify.specs.Answers.{SinkView, HidesNone, IsUsage, Means};
 ghost use Rattle.hk_verify.specs.Headline.{AcceptsCorrect, RejectsRefuted, UnknownsSpent};
 ghost use Rattle.hk_verify.specs.Lrat.{MeansLrat, RefutesSoundly};
 ghost use Rattle.hk_verify.specs.Runs.{MeansRun};
+ghost use Rattle.hk_verify.specs.Bench.{MeansBench};
 
 use crate::answer::{Answer, TopFault};
+use crate::benchmark::bench;
 use crate::lrat::lrat;
 use crate::refusal::refuse;
 use crate::running::run;
 use crate::verify::verify;
-use crate::words::{behind_run, behind_verify};
+use crate::words::{behind_bench, behind_run, behind_verify};
 use hk_io::{Shelf, Sink};
 use std::alloc::Global;
 
@@ -36,8 +38,8 @@ fn names_behind<'x>(words: &'x [String], command: &'x str) -> Option<(&'x str, &
 
 /// Does what the words ask, reads from the shelf and reports on the sink.
 ///
-/// The forms so far are `verify KERNEL SPEC [--conflicts N]`, `lrat CNF PROOF` and `run KERNEL FUNCTION [ARG ..]`; other words are a
-/// faulty command line. Want of memory alone is free.
+/// The forms so far are `verify KERNEL SPEC [--conflicts N]`, `lrat CNF PROOF`, `run KERNEL FUNCTION [ARG ..]` and `bench N`; other words
+/// are a faulty command line. Want of memory alone is free.
 pub fn run_words<F: Shelf, O: Sink>(
     alloc: Global,
     words: &[String],
@@ -67,6 +69,10 @@ pub fn run_words<F: Shelf, O: Sink>(
         let view : ShelfView = record { held = F.held shelf.old; before = F.faults shelf.old; after = F.faults shelf.new } in
         let sink : SinkView = record { shown = O.shown out.old; shown' = O.shown out.new; faults = O.faults out.old; faults' = O.faults out.new } in
         MeansRun view sink (bytes_of words.now) kernel function arguments result }
+    // what is answered and shown for a generated workload: the counts of right verdicts for its texts, or a fault with its cause
+    ensures counted { (n : ℕ) → IsBench (bytes_of words.now) n →
+        let sink : SinkView = record { shown = O.shown out.old; shown' = O.shown out.new; faults = O.faults out.old; faults' = O.faults out.new } in
+        MeansBench sink (bytes_of words.now) n result }
     // words without a form get the line of usage
     ensures usage { HasNoForm (bytes_of words.now) →
         let sink : SinkView = record { shown = O.shown out.old; shown' = O.shown out.new; faults = O.faults out.old; faults' = O.faults out.new } in
@@ -82,6 +88,9 @@ pub fn run_words<F: Shelf, O: Sink>(
     }
     if let Some((cnf, proof)) = names_behind(words, "lrat") {
         return lrat(alloc, words, cnf, proof, shelf, out);
+    }
+    if let Some(n) = behind_bench(words) {
+        return bench(alloc, words, n, out);
     }
     match behind_run(words) {
         Some((kernel, function, arguments)) => {

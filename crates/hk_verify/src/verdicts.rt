@@ -1,6 +1,6 @@
 //! The handlers of a specification, decided and reported one after another.
 
-ghost use Rattle.std.specs.Prelude.{◌≡◌, ◌≤◌, ◌+◌, ◌<◌, [], Some, OnOk, OnErr, length, slice_get, vec_len};
+ghost use Rattle.std.specs.Prelude.{◌≡◌, ◌≤◌, ◌+◌, ◌<◌, [], Some, IfOk, OnOk, OnErr, length, slice_get, vec_len};
 ghost use Rattle.std.specs.Vec.{vec_capacity};
 ghost use Rattle.hk_io.specs.Faults.{Rose};
 ghost use Rattle.ir_ast.specs.ProgramView.{view_module};
@@ -8,14 +8,14 @@ ghost use Rattle.spec_tree.specs.Sorted.{IsWellSorted};
 ghost use Rattle.spec_tree.specs.View.{view_spec, view_transition};
 ghost use Rattle.spec_kernel.specs.Fit.{FitsModule};
 ghost use Rattle.hk_verdict.specs.Report.{IsShownVerdict};
-ghost use Rattle.hk_verify.specs.Verdicts.{Adds, AddsCut, AreCut, AreShown, IsRightFor};
+ghost use Rattle.hk_verify.specs.Verdicts.{Adds, AddsCut, AreCut, AreRight, AreShown, IsRightFor};
 
 use hk_decide::decide;
 use hk_io::{Sink, SinkFault};
 use hk_verdict::{Verdict, put_verdict};
 use ir_kernel::Kernel;
 use spec_tree::{Spec, Transition};
-use std::alloc::Global;
+use std::alloc::{AllocError, Global};
 
 /// The verdict of the handler at a place: want of memory where it was refused in deciding it.
 fn verdict_of(
@@ -106,4 +106,26 @@ pub fn decide_all<O: Sink>(
         )?;
     }
     Ok(())
+}
+
+/// The verdicts of all handlers in the order of the specification, a round of the solver with so many conflicts at most. Room for all of
+/// them is reserved before the first handler is decided, and nothing is put.
+pub fn verdicts_of(
+    alloc: Global,
+    kernel: &Kernel,
+    spec: &Spec,
+    budget: u64,
+) -> Result<Vec<Verdict>, AllocError>
+    requires sorted { IsWellSorted (view_spec spec.now) }
+    requires fits { FitsModule (view_module kernel.now) (view_spec spec.now) }
+    requires budget { 1 ≤ budget }
+    ensures { IfOk result (λ verdicts. AreRight budget (view_module kernel.now) (view_spec spec.now) (view_spec spec.now).transitions verdicts.items) }
+{
+    let transitions = spec.transitions.as_slice();
+    let mut verdicts = Vec::with_capacity(alloc, transitions.len())?;
+    for (place, transition) in transitions.iter().enumerate() {
+        let decided = verdict_of(alloc, kernel, spec, place as u32, transition, budget);
+        verdicts.push_reserved(decided);
+    }
+    Ok(verdicts)
 }

@@ -1,7 +1,6 @@
 //! The command `verify KERNEL SPEC [--conflicts N]`.
 
 ghost use Rattle.std.specs.Prelude.{◌≡◌, ◌≤◌, ℕ, List, [], Some, length, vec_len, IfOk};
-ghost use Rattle.std.specs.List.{list_any};
 ghost use Rattle.std.specs.Vec.{vec_capacity};
 ghost use Rattle.ir_ast.specs.ProgramView.{view_module};
 ghost use Rattle.spec_tree.specs.Sorted.{IsWellSorted};
@@ -9,7 +8,7 @@ ghost use Rattle.spec_tree.specs.View.{view_spec};
 ghost use Rattle.spec_kernel.specs.Fit.{FitsModule};
 ghost use Rattle.hk_decide.specs.Opening.{IsOpening};
 ghost use Rattle.hk_verify.specs.declared.answer.TopFault.TheVariants.{Write};
-ghost use Rattle.hk_verify.specs.Lines.{verdict_status, is_failed as is_failed_of, is_faulted as is_faulted_of, is_rejection as is_rejection_of, is_memory as is_memory_of, is_unknown as is_unknown_of, open_status as open_status_of};
+ghost use Rattle.hk_verify.specs.Lines.{verdict_status, is_failed as is_failed_of, is_faulted as is_faulted_of, open_status as open_status_of};
 ghost use Rattle.hk_verify.specs.Inputs.{ShelfView};
 ghost use Rattle.hk_verify.specs.Answers.{SinkView, HidesNone, Means, Reports};
 ghost use Rattle.hk_verify.specs.Headline.{AcceptsCorrect, RejectsRefuted, UnknownsSpent};
@@ -17,6 +16,7 @@ ghost use Rattle.hk_verify.specs.Words.{IsVerify, bytes_of};
 
 use crate::answer::{Answer, TopFault};
 use crate::inputs::{Inputs, read_inputs};
+use crate::kinds::{has_memory, has_rejection, has_unknown};
 use crate::refusal::{refuse, status};
 use crate::verdicts::decide_all;
 use hk_decide::open;
@@ -35,63 +35,6 @@ fn is_failed(init: InitVerdict) -> bool
         InitVerdict::FailsInvariant(_) => true,
         InitVerdict::FailsProperty(_) => true,
     }
-}
-
-/// Whether a verdict is a rejection.
-fn is_rejection(verdict: &Verdict) -> bool
-    ensures { result ≡ is_rejection_of verdict.now }
-{
-    match verdict {
-        Verdict::Accepted { .. } => false,
-        Verdict::Rejected { .. } => true,
-        Verdict::Unknown { .. } => false,
-        Verdict::Memory => false,
-    }
-}
-
-/// Whether a verdict is want of memory.
-fn is_memory(verdict: &Verdict) -> bool
-    ensures { result ≡ is_memory_of verdict.now }
-{
-    match verdict {
-        Verdict::Accepted { .. } => false,
-        Verdict::Rejected { .. } => false,
-        Verdict::Unknown { .. } => false,
-        Verdict::Memory => true,
-    }
-}
-
-/// Whether a verdict is that of a handler that was not decided.
-fn is_unknown(verdict: &Verdict) -> bool
-    ensures { result ≡ is_unknown_of verdict.now }
-{
-    match verdict {
-        Verdict::Accepted { .. } => false,
-        Verdict::Rejected { .. } => false,
-        Verdict::Unknown { .. } => true,
-        Verdict::Memory => false,
-    }
-}
-
-/// Whether there is a rejection.
-fn has_rejection(verdicts: &[Verdict]) -> bool
-    ensures { result ≡ list_any is_rejection_of verdicts.now }
-{
-    verdicts.iter().any(|verdict| is_rejection(verdict))
-}
-
-/// Whether there is want of memory.
-fn has_memory(verdicts: &[Verdict]) -> bool
-    ensures { result ≡ list_any is_memory_of verdicts.now }
-{
-    verdicts.iter().any(|verdict| is_memory(verdict))
-}
-
-/// Whether a handler was not decided.
-fn has_unknown(verdicts: &[Verdict]) -> bool
-    ensures { result ≡ list_any is_unknown_of verdicts.now }
-{
-    verdicts.iter().any(|verdict| is_unknown(verdict))
 }
 
 /// Whether something was found wrong: the opening fails, or a handler is rejected.
@@ -126,8 +69,8 @@ fn status_of(init: InitVerdict, verdicts: &[Verdict]) -> u8
     }
 }
 
-/// The answer after a failed put: the verdicts up to the one whose line failed.
-fn cut(init: InitVerdict, verdicts: Vec<Verdict>) -> Answer
+/// The answer after a failed put, with these verdicts: in `verify` those up to the one whose line failed.
+pub fn cut(init: InitVerdict, verdicts: Vec<Verdict>) -> Answer
     ensures status { result.status ≡ 6 }
     ensures init { result.init ≡ init }
     ensures verdicts { result.verdicts ≡ verdicts.items }

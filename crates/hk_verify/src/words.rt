@@ -1,17 +1,20 @@
-//! The words of `verify KERNEL SPEC [--conflicts N]` and of `run KERNEL FUNCTION [ARG ..]`.
+//! The words of `verify KERNEL SPEC [--conflicts N]`, of `run KERNEL FUNCTION [ARG ..]` and of `bench N`.
 
 ghost use Rattle.std.specs.Prelude.{◌≡◌, ◌<◌, ◌≤◌, ◌^◌, ◌∷◌, ℕ, List, IfSome, IfNone, IfOk, IsTrue, All, false, map, bytes_eq, codes};
 ghost use Rattle.std.specs.Fmt.{decimal};
-ghost use Rattle.hk_verify.specs.Words.{AllowConflicts, AreNumbers, IsRun, IsVerify, bytes_of, most_conflicts};
+ghost use Rattle.hk_verify.specs.Words.{AllowConflicts, AreNumbers, IsBench, IsRun, IsVerify, bytes_of};
 
 use itoa::Buffer;
 use std::alloc::{AllocError, Global};
 
 /// The conflicts that a round of the solver may take where the words name no number.
-const USUAL_CONFLICTS: u64 = 20_000;
+pub const USUAL_CONFLICTS: u64 = 20_000;
 
 /// The most conflicts that the words may name.
 const MOST_CONFLICTS: u64 = 1_000_000;
+
+/// The most handlers that a generated workload has.
+const MOST_HANDLERS: u64 = 64;
 
 /// Whether a word is the decimal digits of a number.
 fn spells(word: &str, number: u64) -> bool
@@ -38,16 +41,16 @@ fn number_of(word: &str) -> Option<u64>
     }
 }
 
-/// The number of conflicts of which a word is the decimal digits.
-fn conflicts_of(word: &str) -> Option<u64>
+/// The number from 1 to `most` of which a word is the decimal digits.
+fn number_to(word: &str, most: u64) -> Option<u64>
     ensures number { IfSome result (λ n. word.now ≡ decimal n) }
     ensures some { IfSome result (λ n. 1 ≤ n) }
-    ensures most { IfSome result (λ n. n ≤ most_conflicts) }
-    ensures none { IfNone result ((n : ℕ) → 1 ≤ n → n ≤ most_conflicts → word.now ≡ decimal n → ⊥) }
+    ensures most { IfSome result (λ n. n ≤ most) }
+    ensures none { IfNone result ((n : ℕ) → 1 ≤ n → n ≤ most → word.now ≡ decimal n → ⊥) }
 {
     match number_of(word) {
         Some(number) => {
-            if 1 <= number && number <= MOST_CONFLICTS {
+            if 1 <= number && number <= most {
                 Some(number)
             } else {
                 None
@@ -66,7 +69,7 @@ fn allowed(options: &[String]) -> Option<u64>
         [] => Some(USUAL_CONFLICTS),
         [option, number] => {
             if option.as_str() == "--conflicts" {
-                conflicts_of(number.as_str())
+                number_to(number.as_str(), MOST_CONFLICTS)
             } else {
                 None
             }
@@ -146,4 +149,23 @@ pub fn numbers_of(alloc: Global, words: &[String]) -> Result<Vec<u64>, AllocErro
         numbers.push(value_of(word.as_str()))?;
     }
     Ok(numbers)
+}
+
+/// The number of handlers of a generated workload, where the words are those of `bench`. It takes no memory.
+pub fn behind_bench(words: &[String]) -> Option<u64>
+    ensures form { IfSome result (IsBench (bytes_of words.now)) }
+    ensures some { IfSome result (λ n. 1 ≤ n) }
+    ensures few { IfSome result (λ n. n ≤ 64) }
+    ensures none { IfNone result ((n : ℕ) → IsBench (bytes_of words.now) n → ⊥) }
+{
+    match words {
+        [command, number] => {
+            if command.as_str() == "bench" {
+                number_to(number.as_str(), MOST_HANDLERS)
+            } else {
+                None
+            }
+        }
+        _ => None,
+    }
 }

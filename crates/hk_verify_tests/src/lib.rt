@@ -1,10 +1,13 @@
-//! Tests of the top call over whole texts: files go in, the lines that are shown and the exit status come out.
+//! Tests of the top call over whole texts: files go in, or the number of handlers of a generated workload; the lines that are
+//! shown and the exit status come out.
 //!
 //! They stand in a crate of their own, above the top call, so that it is not proved a second time for them. What they
 //! expect was written from the rules of the formats. Where several cases violate an obligation, any of them may be shown
 //! (`shown`).
 #![tactic(auto)]
 
+#[cfg(test)]
+mod bench_tests;
 #[cfg(test)]
 mod calls;
 #[cfg(test)]

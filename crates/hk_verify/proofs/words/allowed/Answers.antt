@@ -5,6 +5,6 @@ use Rattle.hk_verify.proofs.words.allowed.Goals as goal
 
 pub returns-then-eq-clause-allowed : goal.returns-then-eq-clause-allowed
 returns-then-eq-clause-allowed c =
-    named c.args.options.now c.option-item.result c.number-item.result c.as_str-then-eq.result.now c.conflicts_of.result c.in-len2.len_at_least c.in-len2.len_below c.option-item.is c.number-item.is
+    named c.args.options.now c.option-item.result c.number-item.result c.as_str-then-eq.result.now c.number_to.result c.in-len2.len_at_least c.in-len2.len_below c.option-item.is c.number-item.is
     (sym c.as_str.ensures.value ∙ (bytes_eq-Decides _ _).0 (sym c.eq.ensures ∙ c.if-eq.true)) c.as_str-then-eq.ensures.value
-    c.conflicts_of.ensures.number c.conflicts_of.ensures.some c.conflicts_of.ensures.most
+    c.number_to.ensures.number c.number_to.ensures.some c.number_to.ensures.most
