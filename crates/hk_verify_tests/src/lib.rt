@@ -11,6 +11,8 @@ mod bench_tests;
 #[cfg(test)]
 mod calls;
 #[cfg(test)]
+mod clause_tests;
+#[cfg(test)]
 mod counter_texts;
 #[cfg(test)]
 mod descriptor_texts;
