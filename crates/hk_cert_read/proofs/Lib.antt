@@ -1,0 +1,4 @@
+pub mod Exits
+pub mod Following
+pub mod Logging
+pub mod Widening

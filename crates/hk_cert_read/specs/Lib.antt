@@ -1,0 +1,4 @@
+pub mod Handling
+pub mod Proving
+pub mod Whole
+pub mod Widths
