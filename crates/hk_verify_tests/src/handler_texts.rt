@@ -182,3 +182,67 @@ pub const LOOPED: &[&str] = &[
     "    new.t = 2",
     "    return True, new",
 ];
+
+/// A count that is raised before the test that it needs.
+pub const TAKES: &[&str] = &[
+    "@nr = global i8 0",
+    "@fd = global i8 0",
+    "define i32 @take() {",
+    "  %n = load i8, ptr @nr",
+    "  %m = add i8 %n, 1",
+    "  store i8 %m, ptr @nr",
+    "  %v = load i8, ptr @fd",
+    "  %c = icmp eq i8 %v, 0",
+    "  br i1 %c, label %ok, label %bad",
+    "ok:",
+    "  store i8 1, ptr @fd",
+    "  ret i32 0",
+    "bad:",
+    "  ret i32 -1",
+    "}",
+];
+
+/// The count is raised where the test holds.
+pub const TAKEN: &[&str] = &[
+    "class S:",
+    "    proc_nr_fds = Bits(8)",
+    "    proc_fd = Bits(8)",
+    "def equiv(kernel, state):",
+    "    return And(state.proc_nr_fds == kernel.nr, state.proc_fd == kernel.fd)",
+    "def take(state):",
+    "    new = state.copy()",
+    "    new.proc_nr_fds = state.proc_nr_fds + 1",
+    "    new.proc_fd = 1",
+    "    return state.proc_fd == 0, new",
+];
+
+/// A descriptor that is opened without a count.
+pub const OPENS: &[&str] = &[
+    "@fd = global i8 -1",
+    "@refs = global i8 0",
+    "define i32 @sys_open() {",
+    "  %v = load i8, ptr @fd",
+    "  %c = icmp eq i8 %v, -1",
+    "  br i1 %c, label %ok, label %bad",
+    "ok:",
+    "  store i8 1, ptr @fd",
+    "  ret i32 0",
+    "bad:",
+    "  ret i32 -1",
+    "}",
+];
+
+/// An open descriptor is counted.
+pub const OPENED: &[&str] = &[
+    "class S:",
+    "    fd = Bits(8)",
+    "    refs = Bits(8)",
+    "def equiv(kernel, state):",
+    "    return And(state.fd == kernel.fd, state.refs == kernel.refs)",
+    "def prop_refs(state):",
+    "    return Implies(state.fd != 255, state.refs != 0)",
+    "def sys_open(state):",
+    "    new = state.copy()",
+    "    new.fd = 1",
+    "    return state.fd == 255, new",
+];

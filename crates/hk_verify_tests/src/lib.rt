@@ -8,6 +8,8 @@
 #[cfg(test)]
 mod calls;
 #[cfg(test)]
+mod clause_tests;
+#[cfg(test)]
 mod counter_texts;
 #[cfg(test)]
 mod descriptor_texts;
