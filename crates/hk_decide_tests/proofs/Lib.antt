@@ -1,0 +1,2 @@
+mod Owed
+mod Verdicts
