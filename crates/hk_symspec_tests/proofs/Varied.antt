@@ -1,5 +1,7 @@
 -- Variables and numbers, one of each width.
-use Rattle.std.proofs.Common.{◌≡◌, ◌<◌, ◌≤◌, ◌+◌, ◌^◌, ℕ, zero, suc, List, [], ◌∷◌, ◌++◌, length, drop, drop-cons, add-one, get_or, refl, sym, ap, ◌∙◌, subst, arith, append_assoc}
+use Rattle.std.proofs.Common.{◌≡◌, ◌<◌, ◌≤◌, ◌+◌, ◌%◌, ◌^◌, lit<, ℕ, zero, suc, List, [], ◌∷◌, ◌++◌, length, drop, drop-cons, add-one, get_or, refl, sym, ap, ◌∙◌, subst, arith, append_assoc}
+use Rattle.std.proofs.Math.Nat.{mod-lt, pow-le-pow_right}
+use Rattle.std.proofs.lemmas.Nat.{pow_pos}
 use Rattle.hk_term.specs.Shape.{width}
 use Rattle.hk_term.specs.declared.node.Node.{Node}
 use Rattle.hk_symspec.specs.Steps.{AreArgumentTerms}
@@ -59,3 +61,12 @@ no_width [] zero l = refl
 no_width [] (suc k) l = refl
 no_width (x ∷ ws) zero l = absurd (omega (arith, l))
 no_width (x ∷ ws) (suc k) l = no_width ws k (omega (arith, l))
+
+-- the low bits of a number
+pub wide : (n w : ℕ) → n < 2 ^ 64 → 64 ≤ w → n < 2 ^ w
+wide n w low high =
+    let more : 2 ^ 64 ≤ 2 ^ w = pow-le-pow_right (lit< tt) high in
+    omega (arith, low, more)
+
+pub low_is_below : (low n w : ℕ) → low ≡ n % 2 ^ w → low < 2 ^ w
+low_is_below low n w is = subst (λ k. k < 2 ^ w) (sym is) (mod-lt n (pow_pos w))

@@ -1,6 +1,6 @@
 //! Variables of widths, and their numbers under a valuation.
 
-ghost use Rattle.std.specs.Prelude.{◌≡◌, ◌^◌, ◌≤◌, ◌<◌, ℕ, length, IfOk};
+ghost use Rattle.std.specs.Prelude.{◌≡◌, ◌%◌, ◌^◌, ◌≤◌, ◌<◌, ℕ, length, IfOk};
 ghost use Rattle.hk_term.specs.Shape.{width};
 ghost use Rattle.hk_symspec.specs.Steps.{AreArgumentTerms};
 ghost use Rattle.spec_tree.specs.Shapes.{AreNumbers};
@@ -46,7 +46,7 @@ pub fn variables(
 
 /// The low bits.
 fn low(number: u64, bits: u32) -> u64
-    ensures { result < 2 ^ bits }
+    ensures { result ≡ number % 2 ^ bits }
 {
     if bits < 64 {
         number % (1 << bits)

@@ -1,6 +1,6 @@
 //! What of a specification is told by a term, over the initial memory that arrays of bytes give.
 
-ghost use Rattle.std.specs.Prelude.{◌≡◌, ◌<◌, ℕ, map, length, List, slice_index_or, IfOk};
+ghost use Rattle.std.specs.Prelude.{◌≡◌, ◌<◌, ℕ, Some, map, length, List, slice_get, slice_index_or, IfOk};
 ghost use Rattle.hk_term.specs.declared.node.Node.{Node};
 ghost use Rattle.hk_symspec.specs.Standing.{IsKernelOver};
 ghost use Rattle.spec_tree.specs.Sorted.{IsWellSorted, field_sorts, no_field};
@@ -12,7 +12,7 @@ use crate::valuations::FIRST_INDEX;
 use hk_symmem::ByteReads;
 use hk_symspec::{SymAbstract, SymStep, invariant_term, property_term, transition_terms};
 use hk_term::{TermId, Terms};
-use spec_tree::{Sort, Spec};
+use spec_tree::{Field, Sort, Spec};
 use std::alloc::{AllocError, Global};
 
 /// A part of a specification that has a number: invariants, properties, fields and transitions by their places.
@@ -35,13 +35,20 @@ pub struct Told {
     pub term: TermId,
 }
 
+/// The field with this place.
+fn field_at(spec: &Spec, field: u32) -> &Field
+    requires { field < length spec.now.fields }
+    ensures { slice_get spec.now.fields field ≡ Some result.now }
+{
+    &spec.fields.as_slice()[field as usize]
+}
+
 /// The keys of a field.
 pub fn keys_of(spec: &Spec, field: u32) -> &[Sort]
     requires { field < length spec.now.fields }
     ensures { map view_key result.now ≡ (slice_index_or (field_sorts (view_spec spec.now)) field no_field).keys }
 {
-    let found = &spec.fields.as_slice()[field as usize];
-    found.keys.as_slice()
+    field_at(spec, field).keys.as_slice()
 }
 
 /// The widths of keys.
