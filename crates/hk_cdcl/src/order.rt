@@ -127,8 +127,11 @@ impl Order {
         self.activities.len()
     }
 
-    /// Adds variables with no activity until there are so many. Where memory is wanting, there may be fewer.
+    /// Adds variables with no activity until there are so many, and makes room in the heap for all of them, those that are
+    /// not in it among them. Where memory is wanting, there may be fewer.
     pub fn widen(&mut self, vars: usize) -> Result<(), AllocError> {
+        let room = vars.saturating_sub(self.heap.len());
+        self.heap.reserve(room)?;
         while self.vars() < vars {
             self.add_variable()?;
         }

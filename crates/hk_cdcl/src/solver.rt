@@ -61,14 +61,19 @@ fn solve_with<P: Propagate>(
     }
 }
 
-/// A call with this budget.
-fn run(alloc: Global, search: &mut Search, budget: u64) -> Result<Found, AllocError>
+/// A call with this budget. The watches take the room that they had in earlier calls.
+fn run(
+    alloc: Global,
+    search: &mut Search,
+    watched: &mut Watched,
+    budget: u64,
+) -> Result<Found, AllocError>
     ensures grows { Grows search.old search.new }
     ensures ran { IfOk result (Ran budget search.old search.new) }
 {
     search.begin(alloc, budget)?;
-    let mut watched = Watched::new(alloc);
-    solve_with(alloc, search, &mut watched)
+    watched.restart();
+    solve_with(alloc, search, watched)
 }
 
 /// The list's clauses, and behind them those of another list from a place on.
@@ -113,11 +118,12 @@ fn grow_search(search: &mut Search, list: &ClauseList, given: usize) -> Result<(
 }
 
 /// A solver that lives through rounds: between two calls its list may grow at the end. It keeps what was learned: the
-/// learned clauses with their log, the activities of variables, and the values that they had last.
+/// learned clauses with their log, the activities of variables, the values that they had last, and room for watches.
 #[derive(Drop)]
 pub struct Solver {
     given: usize,
     search: Search,
+    watched: Watched,
 }
 
 impl Model for Solver {
@@ -141,6 +147,7 @@ impl Solver {
         Ok(Solver {
             given: list.len(),
             search,
+            watched: Watched::new(alloc),
         })
     }
 
@@ -152,6 +159,7 @@ impl Solver {
         ensures log { OnOk result (self.new.log ≡ raised (length self.old.list.clauses) (length list.now.clauses - length self.old.list.clauses) self.old.log) }
         ensures unchanged { OnErr result (self.new ≡ self.old) }
     {
+        self.watched.expect(list, self.given)?;
         grow_search(&mut self.search, list, self.given)?;
         self.given = list.len();
         Ok(())
@@ -164,7 +172,7 @@ impl Solver {
         ensures accepted { AreAccepted (start self.new.list) self.new.log }
         ensures came { IfOk result (Came self.old self.new budget) }
     {
-        run(alloc, &mut self.search, budget)
+        run(alloc, &mut self.search, &mut self.watched, budget)
     }
 }
 
@@ -246,7 +254,12 @@ impl Solver {
     fn into_log(self) -> LratLog
         ensures { result ≡ self.log }
     {
-        let Solver { given: _, search } = self;
+        let Solver {
+            given: _,
+            search,
+            watched,
+        } = self;
+        drop(watched);
         search.into_log()
     }
 }

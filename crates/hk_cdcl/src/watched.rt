@@ -570,6 +570,28 @@ impl Watched {
         }
     }
 
+    /// Forgets what was seen, and keeps the room: the next propagation begins from nothing.
+    pub fn restart(&mut self)
+        ensures { length self.new.ends.items ≡ 0 }
+    {
+        self.ends.truncate(0);
+    }
+
+    /// Makes room for the watches of the clauses from a place of the list on, which come in before the learned ones. Where no
+    /// clause has room yet, `added` makes it for all.
+    pub fn expect(&mut self, list: &ClauseList, from: usize) -> Result<(), AllocError> {
+        if self.roomed == 0 {
+            return Ok(());
+        }
+        let vars = list.vars() as usize;
+        self.watches.widen(2 * vars)?;
+        self.watches.count_from(list, from);
+        self.watches.reserve_from(list, from)?;
+        let more = list.len().saturating_sub(from);
+        self.roomed = self.roomed.saturating_add(more);
+        Ok(())
+    }
+
     /// Makes room for the watches of the clauses that came.
     fn make_room(&mut self, clauses: &ClauseList) -> Result<(), AllocError>
         ensures { HasRoom self.old self.new }

@@ -6,6 +6,7 @@
 #![tactic(auto)]
 
 mod answers;
+mod beside;
 mod rounds;
 
 pub use answers::{Figures, Settled, Settlement};

@@ -9,6 +9,7 @@ ghost use Rattle.hk_inst.specs.Adding.{IsLonger, Lengthened};
 ghost use Rattle.hk_settle.specs.Answers.{goal_test, clauses_of, figures_after, AreRounds, IsRefuted, Refuting, OnRefuted, OnTrue, OnSpent, IfRefuted, IfTrue, IfSpent, Counts};
 
 use crate::answers::{End, Figures, Settled, Settlement};
+use crate::beside::{offer_all, reach_after};
 use hk_cdcl::{SolveEnd, Solver};
 use hk_inst::{AddFault, Instance, InstanceList, Question};
 use std::alloc::{AllocError, Global};
@@ -52,12 +53,13 @@ fn is_none(found: &InstanceList) -> bool
     }
 }
 
-// A round: an end, or none where instances came in.
+// A round: an end, or none where instances came in, with those so far beside them.
 fn round(
     alloc: Global,
     question: &mut Question,
     solver: &mut Solver,
     budget: u64,
+    reach: u64,
 ) -> Result<Option<End>, AllocError>
     requires budget { 1 ≤ budget }
     requires list { solver.old.list ≡ clauses_of question.old }
@@ -78,6 +80,7 @@ fn round(
                 return Ok(Some(End::True(valuation)));
             }
             bring_all(alloc, question, &found)?;
+            offer_all(alloc, question, &found, reach)?;
             solver.grow(question.clauses())?;
             Ok(None)
         }
@@ -114,7 +117,7 @@ fn repeat(
     ensures goal { (v : Reading) → value question.new.nodes question.new.goal v ≡ value question.old.nodes question.old.goal v }
 {
     'more: for before in 0..u64::MAX {
-        if let Some(end) = round(alloc, question, solver, budget)? {
+        if let Some(end) = round(alloc, question, solver, budget, reach_after(before))? {
             let figures = figures_of(question, before + 1);
             return Ok((end, figures));
         }

@@ -6,7 +6,7 @@ ghost use Rattle.hk_cnf.specs.Literal.{IsWithin};
 ghost use Rattle.hk_cnf.specs.Circuit.{Circuit};
 ghost use Rattle.hk_cnf.specs.Front.{IsFront};
 ghost use Rattle.hk_term.specs.Shape.{width, Grows};
-ghost use Rattle.hk_blast.specs.Blasted.{AreBlasted, Lengthens};
+ghost use Rattle.hk_blast.specs.Blasted.{AreBlasted, Lengthens, word_in};
 
 use hk_blast::{BitTable, blast};
 use hk_circuit::word::complement;
@@ -14,6 +14,16 @@ use hk_cnf::{ClauseList, Gates, Lit};
 use hk_term::{Bound, BoundList, Node, TermId, TermKind, TermResize, Terms, UnaryKind};
 use std::alloc::{AllocError, Global};
 use std::test::Fail;
+
+/// The literals of a term, and no literal where it was not blasted.
+fn word(bits: &BitTable, t: TermId) -> &[Lit]
+    ensures { result.now ≡ word_in bits.now t }
+{
+    match bits.get(t) {
+        Some(word) => word,
+        None => &[],
+    }
+}
 
 /// The number of a word of constants; none where a literal is no constant.
 fn number(word: &[Lit], truth: Lit) -> Option<u64> {
@@ -54,7 +64,7 @@ fn constant(alloc: Global, terms: &Terms, t: TermId) -> Result<Option<u64>, Allo
     let mut bits = BitTable::new(alloc);
     blast(terms, t, &mut gates, &mut bits)?;
     let truth = gates.constant()?;
-    Ok(number(bits.word(t), truth))
+    Ok(number(word(&bits, t), truth))
 }
 
 /// What an operation on two constants of width 8 comes to.
@@ -229,7 +239,7 @@ fn counts(alloc: Global, terms: &Terms, t: TermId) -> Result<(u64, usize, u64), 
     let mut gates = Gates::new(alloc);
     let mut bits = BitTable::new(alloc);
     blast(terms, t, &mut gates, &mut bits)?;
-    Ok((gates.sizes().vars, bits.word(t).len(), bits.len()))
+    Ok((gates.sizes().vars, word(&bits, t).len(), bits.len()))
 }
 
 #[test]
@@ -458,12 +468,12 @@ fn refutes(alloc: Global, is: bool) -> Result<bool, AllocError> {
     let mut gates = Gates::new(alloc);
     let mut bits = BitTable::new(alloc);
     blast(&terms, product.result, &mut gates, &mut bits)?;
-    require_number(alloc, &mut gates, bits.word(product.x), 16)?;
-    require_number(alloc, &mut gates, bits.word(product.y), 17)?;
+    require_number(alloc, &mut gates, word(&bits, product.x), 16)?;
+    require_number(alloc, &mut gates, word(&bits, product.y), 17)?;
     if is {
-        require_number(alloc, &mut gates, bits.word(product.result), 32)?;
+        require_number(alloc, &mut gates, word(&bits, product.result), 32)?;
     } else {
-        refuse_number(alloc, &mut gates, bits.word(product.result), 32)?;
+        refuse_number(alloc, &mut gates, word(&bits, product.result), 32)?;
     }
     is_refuted(alloc, gates.clauses())
 }

@@ -182,6 +182,24 @@ pub fn fives(alloc: Global, terms: &mut Terms, value: u64) -> Result<TermId, All
     Ok(made)
 }
 
+/// "Each of the first 64 entries is 5, the variable 1 is one of their places, and the entry there is not 5."
+pub fn outlier(alloc: Global, terms: &mut Terms) -> Result<TermId, AllocError>
+    ensures within { IfOk result (λ t. t < length terms.new) }
+    ensures width { IfOk result (λ t. width terms.new t ≡ 1) }
+    ensures keeps { Keeps terms.old terms.new }
+{
+    let body = entry_is(terms, 0, 5)?;
+    let all = every(alloc, terms, 64, body)?;
+    let index = variable(terms, 1)?;
+    let size = number(terms, 64)?;
+    let inside = below(terms, index, size)?;
+    let five = entry_is(terms, 1, 5)?;
+    let other = denied(terms, five)?;
+    let there = both(terms, inside, other)?;
+    let made = both(terms, all, there)?;
+    Ok(made)
+}
+
 /// "The variable is this place, and the entry there is this number."
 pub fn entry_at(terms: &mut Terms, id: u32, place: u64, value: u64) -> Result<TermId, AllocError>
     requires place { place < 2 ^ 8 }

@@ -5,7 +5,7 @@ ghost use Rattle.hk_term.specs.Shape.{width};
 ghost use Rattle.hk_inst.specs.Growing.{IsGoal};
 ghost use Rattle.hk_settle_tests.specs.Eights.{Keeps};
 
-use crate::goals::{apart, clash, fives, pigeons};
+use crate::goals::{apart, clash, fives, outlier, pigeons};
 use hk_inst::{InstanceList, Question};
 use hk_lrat::{LratLog, refutes};
 use hk_settle::{Settled, settle, settle_with_figures};
@@ -26,6 +26,8 @@ enum Sample {
     Six,
     /// Four pigeons are in three holes.
     Pigeons,
+    /// Each of 64 entries is 5, and one of them is not.
+    Outlier,
 }
 
 /// The truth value of a sample.
@@ -40,6 +42,7 @@ fn truth_of(alloc: Global, terms: &mut Terms, sample: Sample) -> Result<TermId, 
         Sample::Fives => fives(alloc, terms, 5),
         Sample::Six => fives(alloc, terms, 6),
         Sample::Pigeons => pigeons(terms),
+        Sample::Outlier => outlier(alloc, terms),
     }
 }
 
@@ -140,6 +143,7 @@ fn samples_come_to_their_answers(rt: HostRuntime) -> Result<(), Fail> {
         (Sample::Six, 100, "refuted"),
         (Sample::Pigeons, 1_000, "refuted"),
         (Sample::Pigeons, 1, "spent"),
+        (Sample::Outlier, 10_000, "refuted"),
     ];
     for (sample, budget, expected) in table {
         assert!(rt; 1 <= budget);
@@ -156,5 +160,15 @@ fn a_pair_comes_in_between_two_rounds(rt: HostRuntime) -> Result<(), Fail> {
     let settlement = settle_with_figures(rt.alloc(), question, 100)?;
     assert_eq!(rt; settlement.figures.rounds, 2);
     assert_eq!(rt; settlement.figures.instances, 1);
+    Ok(())
+}
+
+/// Each of the 64 tuples is needed, and so is a pair of reads for each, but they do not come in one a round.
+#[test]
+fn instances_come_in_beside_those_that_are_violated(rt: HostRuntime) -> Result<(), Fail> {
+    let question = question_of(rt.alloc(), Sample::Outlier)?;
+    let settlement = settle_with_figures(rt.alloc(), question, 10_000)?;
+    assert!(rt; settlement.figures.instances >= 128);
+    assert!(rt; settlement.figures.rounds <= 40);
     Ok(())
 }
