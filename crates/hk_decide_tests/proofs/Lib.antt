@@ -1,2 +1,2 @@
-mod Owed
+mod Owing
 mod Verdicts

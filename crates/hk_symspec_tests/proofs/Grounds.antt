@@ -18,7 +18,7 @@ use Rattle.spec_tree.specs.Shapes.{IsMemory}
 use Rattle.spec_names.specs.Kernel.{Global}
 use Rattle.spec_kernel.specs.View.{global_of}
 use Rattle.spec_kernel.specs.Fit.{FitsModule}
-use Rattle.hk_symspec_tests.specs.Ground.{IsGround}
+use Rattle.hk_symspec_tests.specs.Grounded.{IsGround}
 
 is_memory : (ns : List ℕ) (memory : List (List ℕ)) → map (λ (o : List ℕ). length o) memory ≡ ns → All (λ o. All (λ b. b < 256) o) memory → IsMemory ns memory
 is_memory [] [] e b = refl

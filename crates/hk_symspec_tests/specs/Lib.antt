@@ -1,1 +1,1 @@
-pub mod Ground
+pub mod Grounded

@@ -7,7 +7,7 @@ ghost use Rattle.hk_symresult.specs.Results.{AreFilled};
 ghost use Rattle.spec_kernel.specs.Fit.{FitsModule};
 ghost use Rattle.spec_tree.specs.Shapes.{IsMemory};
 ghost use Rattle.spec_tree.specs.View.{view_spec};
-ghost use Rattle.hk_symspec_tests.specs.Ground.{IsGround};
+ghost use Rattle.hk_symspec_tests.specs.Grounded.{IsGround};
 
 use hk_symmem::{ByteReads, InitialReads, SymMemory};
 use hk_term::Valuation;

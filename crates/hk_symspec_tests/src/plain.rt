@@ -3,7 +3,7 @@
 ghost use Rattle.std.specs.Prelude.{◌≡◌, ◌<◌, length};
 ghost use Rattle.spec_tree.specs.Sorted.{IsWellSorted};
 ghost use Rattle.spec_tree.specs.View.{view_spec};
-ghost use Rattle.hk_symspec_tests.specs.Ground.{IsGround};
+ghost use Rattle.hk_symspec_tests.specs.Grounded.{IsGround};
 
 use crate::ground::{Ground, memory_at};
 use crate::numbers::numbers_at;

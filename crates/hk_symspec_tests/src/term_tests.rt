@@ -4,7 +4,7 @@ ghost use Rattle.ir_ast.specs.ProgramView.{view_module};
 ghost use Rattle.spec_kernel.specs.Fit.{FitsModule};
 ghost use Rattle.spec_tree.specs.Sorted.{IsWellSorted};
 ghost use Rattle.spec_tree.specs.View.{view_spec};
-ghost use Rattle.hk_symspec_tests.specs.Ground.{IsGround};
+ghost use Rattle.hk_symspec_tests.specs.Grounded.{IsGround};
 
 use crate::draws::Draws;
 use crate::ground::{Ground, ground_of};

@@ -1,6 +1,6 @@
 use Rattle.std.proofs.Common.{◌∙◌}
 use Rattle.spec_tree.specs.View.{view_spec}
-use Rattle.hk_decide_tests.proofs.Owed.{owed_at}
+use Rattle.hk_decide_tests.proofs.Owing.{owed_at}
 use Rattle.hk_decide_tests.proofs.reading_tests.agreements.Goals as goal
 
 pub agreement-requires-clause-owed : goal.agreement-requires-clause-owed

@@ -1,6 +1,6 @@
 use Rattle.std.proofs.Common.{rules, ◌≡◌, ◌<◌, ◌∙◌, length, slice_index_or}
 use Rattle.spec_tree.specs.View.{view_spec}
-use Rattle.hk_oblig_tests.proofs.Owed.{owed_at}
+use Rattle.hk_oblig_tests.proofs.Owing.{owed_at}
 use Rattle.hk_oblig_tests.proofs.asked.question_at.Goals as goal
 
 pub question-requires-clause-owed : goal.question-requires-clause-owed
