@@ -1,7 +1,8 @@
 #!/bin/sh
 # Measures `hkv lrat` on proofs of a chain of implications: rows of ten hints, over a clause file of 10,000 clauses. Prints
 # for each size the time of a token of the proof, reading and checking together, that of a hint, megabytes a second, and
-# the peak of memory as a multiple of the bytes of both files.
+# the peak of memory as a multiple of the bytes of both files. Then clause files whose header states 10^9 variables, which occur
+# or do not, and one of one-literal clauses: their time, and the peak of memory above that of the smallest such file.
 set -eu
 root=$(cd "$(dirname "$0")/.." && pwd)
 work=$(mktemp -d)
@@ -55,4 +56,26 @@ for rows in (100_000, 1_000_000):
     both = size + os.path.getsize(cnf)
     print(f'{hints} hints, {size / 1e6:.1f} MB: {used * 1e9 / tokens:.1f} ns a token, {used * 1e9 / hints:.1f} ns a hint, '
           f'{size / 1e6 / used:.0f} MB/s, peak memory {peak / both:.1f} times the bytes')
+
+
+def spare(clauses, proof_text):
+    with open(cnf, 'w') as out:
+        out.write(f'p cnf 1000000000 {len(clauses)}\n')
+        out.writelines(f'{clause} 0\n' for clause in clauses)
+    with open(proof, 'w') as out:
+        out.write(proof_text)
+    used, peak = min(run(cnf, proof) for _ in range(3))
+    return used, peak, os.path.getsize(cnf) + os.path.getsize(proof)
+
+
+MANY = 1_000_000
+_, least, _ = spare(['5', '-5'], '3 0 1 2 0\n')
+for name, clauses in (
+    ('two clauses of the last variable', ['1000000000', '-1000000000']),
+    ('one-literal clauses of great variables', [str(999_000_000 + k) for k in range(MANY)] + ['-999000000']),
+    ('one-literal clauses of small variables', [str(k % 9 + 1) for k in range(MANY)] + ['-1']),
+):
+    contrary = f'{len(clauses) + 1} 0 1 {len(clauses)} 0\n'
+    used, peak, size = spare(clauses, contrary)
+    print(f'{name}: {size} bytes, {used:.2f} s, {(peak - least) / 1e6:.1f} MB more, {(peak - least) / size:.1f} a byte')
 RUN

@@ -139,10 +139,10 @@ watched-attached clauses lists pairs ends lits first second binary members h a e
     pair = record { first = first; second = second }
 
     one : Watch
-    one = record { clause = length pairs; blocker = second; binary = binary }
+    one = record { blocker = second; clause = length pairs; resume = 0; binary = binary }
 
     two : Watch
-    two = record { clause = length pairs; blocker = first; binary = binary }
+    two = record { blocker = first; clause = length pairs; resume = 0; binary = binary }
 
     mid : List (List Watch)
     mid = with_watch lists first one
@@ -150,13 +150,13 @@ watched-attached clauses lists pairs ends lits first second binary members h a e
     long : length (pairs ++ (record { first = first; second = second }) ∷ []) ≡ length pairs + 1
     long = length_push pairs pair
 
-    mid-inside : code_of second < length (with_watch lists first (record { clause = length pairs; blocker = second; binary = binary }))
+    mid-inside : code_of second < length (with_watch lists first (record { blocker = second; clause = length pairs; resume = 0; binary = binary }))
     mid-inside = let n : length (with_watch lists first one) ≡ length lists = length-set lists (code_of first) (watches_of lists first ++ one ∷ []) in let b : code_of second < length lists = a.second_inside in omega (arith, n, b)
 
-    is-one : IsWatch clauses (length pairs + 1) first (record { clause = length pairs; blocker = second; binary = binary })
+    is-one : IsWatch clauses (length pairs + 1) first (record { blocker = second; clause = length pairs; resume = 0; binary = binary })
     is-one = record { inside = omega arith; member = a.second_member; binary = a.only }
 
-    is-two : IsWatch clauses (length pairs + 1) second (record { clause = length pairs; blocker = first; binary = binary })
+    is-two : IsWatch clauses (length pairs + 1) second (record { blocker = first; clause = length pairs; resume = 0; binary = binary })
     is-two = record { inside = omega arith; member = a.first_member; binary = λ b. flip (clause_no clauses (length pairs)) first second (a.only b) }
 
     watches : (m : ℤ) → m ≢ pos 0 → All (IsWatch clauses (length pairs + 1) m) (watches_of (with_both lists first second (length pairs) binary) m)
@@ -390,10 +390,10 @@ propagating-attached clauses vars w u p head k first second binary ek within h a
     }
   where
     one : Watch
-    one = record { clause = k; blocker = second; binary = binary }
+    one = record { blocker = second; clause = k; resume = 0; binary = binary }
 
     long : length u.watches ≡ length w.watches
-    long = ap length ew ∙ (length-set (with_watch w.watches first one) (code_of second) (watches_of (with_watch w.watches first one) second ++ (record { clause = k; blocker = first; binary = binary }) ∷ []) ∙ length-set w.watches (code_of first) (watches_of w.watches first ++ one ∷ []))
+    long = ap length ew ∙ (length-set (with_watch w.watches first one) (code_of second) (watches_of (with_watch w.watches first one) second ++ (record { blocker = first; clause = k; resume = 0; binary = binary }) ∷ []) ∙ length-set w.watches (code_of first) (watches_of w.watches first ++ one ∷ []))
 
 pub front-whole : (ends : List ℕ) → IsFront ends ends
 front-whole ends = record { count = length ends; is = sym (take_all (length ends) ends (omega arith)) }

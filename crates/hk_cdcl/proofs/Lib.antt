@@ -21,6 +21,7 @@ pub mod Ending
 pub mod Resting
 pub mod Relisting
 pub mod Moving
+pub mod Blocking
 pub mod Attaching
 pub mod Stamping
 pub mod Tracking

@@ -13,7 +13,7 @@ use Rattle.hk_cdcl.specs.declared.watched.Pair.{Pair}
 use Rattle.hk_cdcl.specs.declared.watched.Watched.{Watched}
 use Rattle.hk_cdcl.specs.Path.{Path, IsPath, Extends, lit_at}
 use Rattle.hk_cdcl.specs.Watches.{watches_of, watch_at}
-use Rattle.hk_cdcl.specs.Watching.{clause_no, pair_at, Lists, IsWatch, IsPair, IsOpen, IsTrueIn, Rests, AreWatched, AreResting, AreLater, IsAtHead, IsOther, IsOtherOf, IsMoved, Propagating, Turning, Visited, Settled, Fewer}
+use Rattle.hk_cdcl.specs.Watching.{clause_no, pair_at, Lists, IsWatch, IsPair, IsOpen, IsTrueIn, Rests, AreWatched, AreResting, AreLater, IsAtHead, IsOther, IsOtherOf, IsMoved, Moves, Propagating, Turning, Visited, Settled, Fewer}
 use Rattle.hk_cdcl.specs.Propagation.{IsConflict}
 use Rattle.hk_cdcl.specs.declared.watched.Visit.{Visit}
 use Rattle.hk_cdcl.specs.declared.watched.Visit.TheVariants.{Stays, Goes, Stops, Wants}
@@ -48,19 +48,6 @@ pair-same pairs k pair lt = get_or-set_same pairs k pair (record { first = pos 0
 
 pair-other : (pairs : List Pair) (k j : ℕ) (pair : Pair) → j ≢ k → pair_at (set pairs k pair) j ≡ pair_at pairs j
 pair-other pairs k j pair d = get_or-set_other pairs k j pair (record { first = pos 0; second = pos 0 }) d
-
--- what a move needs: the clause of the n-th watch of l is not true, and next is another literal of it that is not false
-pub record Moves (clauses : List (List ℤ)) (lists : List (List Watch)) (pairs : List Pair) (lits : List ℤ) (l : ℤ) (n k : ℕ) (next other : ℤ) (w : Watch) : Type 0 where
-  pub place : n < length (watches_of lists l)
-  pub clause : (watch_at (watches_of lists l) n).clause ≡ k
-  pub inside : k < length pairs
-  pub pair : IsOtherOf (pair_at pairs k) l other
-  pub found : IsOther lits (clause_no clauses k) other next
-  pub nonzero : next ≢ pos 0
-  pub apart : next ≢ l
-  pub is_clause : w.clause ≡ k
-  pub is_blocker : w.blocker ≡ other
-  pub is_long : w.binary ≡ false
 
 other-member : (clauses : List (List ℤ)) (lists : List (List Watch)) (pairs : List Pair) (l : ℤ) (k : ℕ) (other : ℤ) → IsPair clauses lists k (pair_at pairs k) → IsOtherOf (pair_at pairs k) l other → (has (clause_no clauses k) other ≡ true) × Lists (watches_of lists other) 0 k
 other-member clauses lists pairs l k other p o = pick o.is
@@ -215,7 +202,7 @@ turning-goes clauses vars w u p head l from k next other x within t ee ep el mv 
 
 -- the watch that is looked at, and the literal that became false
 pub watch-is : (clauses : List (List ℤ)) (w : Watched) (p : Path) (head : ℕ) (l : ℤ) (from : ℕ) → Turning clauses w p head l from → from < length (watches_of w.watches l) → IsWatch clauses (length w.pairs.items) l (watch_at (watches_of w.watches l) from)
-watch-is clauses w p head l from t lt = t.propagating.watching.watches l t.at.nonzero from (record { clause = 0; blocker = pos 0; binary = false }) lt
+watch-is clauses w p head l from t lt = t.propagating.watching.watches l t.at.nonzero from (record { blocker = pos 0; clause = 0; resume = 0; binary = false }) lt
 
 pub watch-inside : (clauses : List (List ℤ)) (w : Watched) (p : Path) (head : ℕ) (l : ℤ) (from : ℕ) → Turning clauses w p head l from → from < length (watches_of w.watches l) → (watch_at (watches_of w.watches l) from).clause < length clauses
 watch-inside clauses w p head l from t lt =
@@ -293,8 +280,8 @@ pub left-apart : (lits : List ℤ) (head : ℕ) (l next : ℤ) → IsAtHead lits
 left-apart lits head l next at h e = false≢true (sym h ∙ (ap (λ x. has lits (neg_ℤ x)) e ∙ head-false lits head l at))
 
 -- the move of `rewatch`
-pub moves-of : (clauses : List (List ℤ)) (w : Watched) (p : Path) (head : ℕ) (l : ℤ) (from k : ℕ) (next other : ℤ) → Turning clauses w p head l from → from < length (watches_of w.watches l) → (watch_at (watches_of w.watches l) from).clause ≡ k → IsOtherOf (pair_at w.pairs.items k) l other → IsOther p.lits (clause_no clauses k) other next → IsWithin p.vars next → Moves clauses w.watches w.pairs.items p.lits l from k next other (record { clause = k; blocker = other; binary = false })
-moves-of clauses w p head l from k next other t lt e o f wn =
+pub moves-of : (clauses : List (List ℤ)) (w : Watched) (p : Path) (head : ℕ) (l : ℤ) (from k resume : ℕ) (next other : ℤ) → Turning clauses w p head l from → from < length (watches_of w.watches l) → (watch_at (watches_of w.watches l) from).clause ≡ k → IsOtherOf (pair_at w.pairs.items k) l other → IsOther p.lits (clause_no clauses k) other next → IsWithin p.vars next → Moves clauses w.watches w.pairs.items p.lits l from k next other (record { blocker = other; clause = k; resume = resume; binary = false })
+moves-of clauses w p head l from k resume next other t lt e o f wn =
     record {
       place = lt;
       clause = e;

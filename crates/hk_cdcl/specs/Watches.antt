@@ -9,7 +9,7 @@ watches_of lists l = slice_index_or lists (code_of l) []
 
 -- the watch at a place
 abbrev pub watch_at : List Watch → ℕ → Watch
-watch_at ws n = slice_index_or ws n (record { clause = 0; blocker = pos 0; binary = false })
+watch_at ws n = slice_index_or ws n (record { blocker = pos 0; clause = 0; resume = 0; binary = false })
 
 -- each list is as before; empty ones came
 pub record IsSame (old new : List (List Watch)) : Type 0 where

@@ -151,6 +151,29 @@ pub record IsOther (lits : List ℤ) (c : List ℤ) (k l : ℤ) : Type 0 where
   pub left : has lits (neg_ℤ l) ≡ false
   pub other : k ≢ l
 
+-- the literal at this place of the clause is neither false nor k
+pub record IsLeftAt (lits : List ℤ) (c : List ℤ) (k : ℤ) (place : ℕ) : Type 0 where
+  pub inside : place < length c
+  pub left : has lits (neg_ℤ (lit_at c place)) ≡ false
+  pub other : k ≢ lit_at c place
+
+-- between two places all literals of the clause but k are false
+abbrev pub AreFalseBetween : List ℤ → List ℤ → ℤ → ℕ → ℕ → Type 0
+AreFalseBetween lits c k from to = (n : ℕ) → from ≤ n → n < to → (k ≡ lit_at c n) ⊎ (has lits (neg_ℤ (lit_at c n)) ≡ true)
+
+-- what a move needs: next is another literal of the clause of the n-th watch of l that is not false
+pub record Moves (clauses : List (List ℤ)) (lists : List (List Watch)) (pairs : List Pair) (lits : List ℤ) (l : ℤ) (n k : ℕ) (next other : ℤ) (w : Watch) : Type 0 where
+  pub place : n < length (watches_of lists l)
+  pub clause : (watch_at (watches_of lists l) n).clause ≡ k
+  pub inside : k < length pairs
+  pub pair : IsOtherOf (pair_at pairs k) l other
+  pub found : IsOther lits (clause_no clauses k) other next
+  pub nonzero : next ≢ pos 0
+  pub apart : next ≢ l
+  pub is_clause : w.clause ≡ k
+  pub is_blocker : w.blocker ≡ other
+  pub is_long : w.binary ≡ false
+
 -- another literal of the clause than k
 pub record IsBeside (c : List ℤ) (k l : ℤ) : Type 0 where
   pub member : has c l ≡ true
@@ -172,7 +195,7 @@ with_watch lists l w = slice_set lists (code_of l) (watches_of lists l ++ w ∷ 
 -- both watches of a clause came
 abbrev pub with_both : List (List Watch) → ℤ → ℤ → ℕ → Bool → List (List Watch)
 with_both lists first second k binary =
-    with_watch (with_watch lists first (record { clause = k; blocker = second; binary = binary })) second (record { clause = k; blocker = first; binary = binary })
+    with_watch (with_watch lists first (record { blocker = second; clause = k; resume = 0; binary = binary })) second (record { blocker = first; clause = k; resume = 0; binary = binary })
 
 -- an end came, where the trail grew since the last one
 abbrev pub EndsMore : List ℕ → List ℕ → ℕ → Type 0

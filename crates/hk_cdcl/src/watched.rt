@@ -1,8 +1,12 @@
 //! Unit propagation by two watched literals a clause (Moskewicz et al. 2001), with a blocking literal beside each watch.
 //!
 //! Where nothing is left to do, each clause has a true literal, or both its watched literals are not false. So only the
-//! watches of a literal that became false are looked at. The lengths of the trail at which nothing was left to do are
-//! kept: after a cut the literals behind the last of them are looked at again.
+//! watches of a literal that became false are looked at. Where a clause is true, the watch stays, and a true literal
+//! blocks it; only an unset literal comes to be watched. The search for one goes round the clause from the place at which
+//! the last one ended (Gent 2013), so that front literals that stay false are not looked at again and again.
+//!
+//! The lengths of the trail at which nothing was left to do are kept: after a cut the literals behind the last of them are
+//! looked at again.
 
 ghost use Rattle.std.specs.Prelude.{◌≡◌, ◌≢◌, ◌⊎◌, ◌↔◌, ◌+◌, ◌*◌, ◌^◌, ◌<◌, ◌≤◌, ◌++◌, ◌∷◌, pos, slice_set, [], false, true, List, ℤ, neg_ℤ, length, take, IfSome, IfNone, IsTrue, IsFalse, MatchOption, OnOk, OnErr};
 ghost use Rattle.std.specs.List.{All, AllPairs};
@@ -11,7 +15,7 @@ ghost use Rattle.hk_cdcl.specs.Fresh.{AreQuiet};
 ghost use Rattle.hk_cdcl.specs.Path.{Extends, lit_at};
 ghost use Rattle.hk_cdcl.specs.Propagation.{IsConflict, HasSeen};
 ghost use Rattle.hk_cdcl.specs.Watches.{watches_of, watch_at};
-ghost use Rattle.hk_cdcl.specs.Watching.{clause_no, IsFront, IsEnded, with_both, HasRoom, EndsMore, Begins, Fits, IfQuiet, Propagated, Settled, IsOtherOf, IsMoved, IsLeft, IsOther, IsBeside, Propagating, Turning, Visited, Fewer, Came};
+ghost use Rattle.hk_cdcl.specs.Watching.{clause_no, AreFalseBetween, IsLeftAt, Moves, IsFront, IsEnded, with_both, HasRoom, EndsMore, Begins, Fits, IfQuiet, Propagated, Settled, IsOtherOf, IsMoved, IsLeft, IsOther, IsBeside, Propagating, Turning, Visited, Fewer, Came};
 
 use crate::propagate::Propagate;
 use crate::scan::scan;
@@ -122,34 +126,124 @@ fn other_of(pair: Pair, lit: Lit) -> Option<Lit>
     None
 }
 
+/// The literal at a place of the clause.
+fn lit_of(clause: &[Lit], place: usize) -> Lit
+    requires { place < length clause.now }
+    ensures { result ≡ lit_at clause.now place }
+{
+    clause[place]
+}
+
+/// Whether another literal than `lit` is not false.
+fn is_left(trail: &Trail, lit: Lit, other: Lit) -> bool
+    requires { IsWithin trail.now.vars other }
+    ensures left { IsTrue result → has trail.now.lits (neg_ℤ other) ≡ false }
+    ensures apart { IsTrue result → lit ≢ other }
+    ensures none { IsFalse result → (lit ≡ other) ⊎ (has trail.now.lits (neg_ℤ other) ≡ true) }
+{
+    if other == lit {
+        return false;
+    }
+    !trail.holds(other.negated())
+}
+
+/// The first place between two in the clause whose literal is neither `lit` nor false.
+fn left_between(trail: &Trail, clause: &[Lit], lit: Lit, from: usize, to: usize) -> Option<usize>
+    requires within { All (IsWithin trail.now.vars) clause.now }
+    requires inside { to ≤ length clause.now }
+    ensures { MatchOption result (AreFalseBetween trail.now.lits clause.now lit from to) (IsLeftAt trail.now.lits clause.now lit) }
+{
+    for place in from..to {
+        if is_left(trail, lit, lit_of(clause, place)) {
+            return Some(place);
+        }
+    }
+    None
+}
+
+/// The same before a place from which on there is none.
+fn left_before(trail: &Trail, clause: &[Lit], lit: Lit, start: usize) -> Option<usize>
+    requires within { All (IsWithin trail.now.vars) clause.now }
+    requires inside { start ≤ length clause.now }
+    requires none { AreFalseBetween trail.now.lits clause.now lit start (length clause.now) }
+    ensures { MatchOption result (All (λ x. (lit ≡ x) ⊎ (has trail.now.lits (neg_ℤ x) ≡ true)) clause.now) (IsLeftAt trail.now.lits clause.now lit) }
+{
+    left_between(trail, clause, lit, 0, start)
+}
+
+/// Where to begin in a clause: at this place, where it has one.
+fn start_of(clause: &[Lit], from: usize) -> usize
+    ensures { result ≤ length clause.now }
+{
+    if from < clause.len() { from } else { 0 }
+}
+
+/// A place in the clause whose literal is neither `lit` nor false: the first one from `from` on, or else from the front on.
+fn left_from(trail: &Trail, clause: &[Lit], lit: Lit, from: usize) -> Option<usize>
+    requires { All (IsWithin trail.now.vars) clause.now }
+    ensures { MatchOption result (All (λ x. (lit ≡ x) ⊎ (has trail.now.lits (neg_ℤ x) ≡ true)) clause.now) (IsLeftAt trail.now.lits clause.now lit) }
+{
+    let start = start_of(clause, from);
+    match left_between(trail, clause, lit, start, clause.len()) {
+        Some(place) => Some(place),
+        None => left_before(trail, clause, lit, start),
+    }
+}
+
+/// A watch of a clause of at least three literals.
+fn long_watch(clause: u32, blocker: Lit, resume: u16) -> Watch
+    ensures { result ≡ record { blocker = blocker; clause = clause; resume = resume; binary = false } }
+{
+    Watch {
+        blocker,
+        clause,
+        resume,
+        binary: false,
+    }
+}
+
+/// The place where a search goes on, or the front where it is too far behind.
+fn resume_at(place: usize) -> u16 {
+    if place > 65_535 { 0 } else { place as u16 }
+}
+
 impl Watched {
+    /// Makes a literal of its clause block the literal's watch at a place.
+    fn block(&mut self, lit: Lit, place: usize, clause: u32, blocker: Lit, resume: u16)
+        requires lit { code_of lit < length self.old.watches }
+        requires place { place < length (watches_of self.old.watches lit) }
+        ensures ends { self.new.ends ≡ self.old.ends }
+        ensures pairs { self.new.pairs ≡ self.old.pairs }
+        ensures watches { self.new.watches ≡ slice_set self.old.watches (code_of lit) (slice_set (watches_of self.old.watches lit) place (record { blocker = blocker; clause = clause; resume = resume; binary = false })) }
+    {
+        self.watches
+            .set(lit, place, long_watch(clause, blocker, resume));
+    }
+
     /// Watches the clause of the literal's watch at a place by `next` in place of the literal.
-    fn rewatch(&mut self, lit: Lit, place: usize, clause: usize, next: Lit, other: Lit) -> bool
+    fn rewatch(&mut self, lit: Lit, place: usize, watch: Watch, next: Lit) -> bool
         requires lit { code_of lit < length self.old.watches }
         requires next { code_of next < length self.old.watches }
         requires lit_nonzero { lit ≢ pos 0 }
         requires next_nonzero { next ≢ pos 0 }
         requires apart { next ≢ lit }
         requires place { place < length (watches_of self.old.watches lit) }
-        requires clause { clause < length self.old.pairs.items }
+        requires clause { watch.clause < length self.old.pairs.items }
         ensures ends { self.new.ends ≡ self.old.ends }
-        ensures pairs { IsTrue result → self.new.pairs.items ≡ slice_set self.old.pairs.items clause (record { first = next; second = other }) }
-        ensures watches { IsTrue result → IsMoved self.old.watches self.new.watches lit place next (record { clause = clause; blocker = other; binary = false }) }
+        ensures pairs { IsTrue result → self.new.pairs.items ≡ slice_set self.old.pairs.items watch.clause (record { first = next; second = watch.blocker }) }
+        ensures watches { IsTrue result → IsMoved self.old.watches self.new.watches lit place next watch }
         ensures count { IsTrue result → length self.new.watches ≡ length self.old.watches }
     {
-        let watch = Watch {
-            clause,
-            blocker: other,
-            binary: false,
+        let clause = watch.clause as usize;
+        let pair = Pair {
+            first: next,
+            second: watch.blocker,
         };
         if !self.watches.push(next, watch) {
             return false;
         }
         self.watches.remove(lit, place);
-        self.pairs[clause] = Pair {
-            first: next,
-            second: other,
-        };
+        self.pairs[clause] = pair;
         true
     }
 }
@@ -171,6 +265,37 @@ fn settle(clauses: &ClauseList, trail: &mut Trail, place: usize, lit: Lit) -> Vi
 }
 
 impl Watched {
+    /// Goes on with another literal of the clause that is not false: where it is true, it blocks the watch, and else it is
+    /// watched.
+    fn go_on(
+        &mut self,
+        clauses: &ClauseList,
+        trail: &Trail,
+        head: usize,
+        lit: Lit,
+        place: usize,
+        watch: Watch,
+        next: Lit,
+    ) -> Visit
+        requires vars { trail.now.vars ≡ clauses.now.vars }
+        requires turning { Turning clauses.now.clauses self.old trail.now head lit place }
+        requires moves { Moves clauses.now.clauses self.old.watches self.old.pairs.items trail.now.lits lit place watch.clause next watch.blocker watch }
+        ensures visited { Visited clauses.now.clauses self.new trail.now head lit place result }
+        ensures fewer { Fewer self.old.watches self.new.watches lit result }
+    {
+        let _within = clauses.len();
+        let _path = trail.len();
+        if trail.holds(next) {
+            self.block(lit, place, watch.clause, next, watch.resume);
+            return Visit::Stays;
+        }
+        if self.rewatch(lit, place, watch, next) {
+            Visit::Goes
+        } else {
+            Visit::Wants
+        }
+    }
+
     /// Looks at the clause of a watch, whose blocking literal is not true.
     fn visit_clause(
         &mut self,
@@ -179,32 +304,33 @@ impl Watched {
         head: usize,
         lit: Lit,
         place: usize,
-        clause: usize,
+        watch: Watch,
     ) -> Visit
         requires vars { trail.old.vars ≡ clauses.now.vars }
         requires turning { Turning clauses.now.clauses self.old trail.old head lit place }
         requires place { place < length (watches_of self.old.watches lit) }
-        requires clause { (watch_at (watches_of self.old.watches lit) place).clause ≡ clause }
+        requires clause { (watch_at (watches_of self.old.watches lit) place).clause ≡ watch.clause }
         ensures extends { Extends clauses.now.clauses trail.old trail.new }
         ensures visited { Visited clauses.now.clauses self.new trail.new head lit place result }
         ensures fewer { Fewer self.old.watches self.new.watches lit result }
     {
         let _within = clauses.len();
         let _path = trail.len();
+        let clause = watch.clause as usize;
         let Some(other) = other_of(self.pairs[clause], lit) else {
             return Visit::Wants;
         };
+        self.block(lit, place, watch.clause, other, watch.resume);
         if trail.holds(other) {
             return Visit::Stays;
         }
-        let Some(next) = other_left(trail, clauses.clause(clause), other) else {
+        let lits = clauses.clause(clause);
+        let Some(at) = left_from(trail, lits, other, watch.resume as usize) else {
             return settle(clauses, trail, clause, other);
         };
-        if self.rewatch(lit, place, clause, next, other) {
-            Visit::Goes
-        } else {
-            Visit::Wants
-        }
+        let next = lit_of(lits, at);
+        let moved = long_watch(watch.clause, other, resume_at(at));
+        self.go_on(clauses, trail, head, lit, place, moved, next)
     }
 
     /// Looks at the literal's watch at a place, where the literal became false by that at `head`.
@@ -230,9 +356,9 @@ impl Watched {
             return Visit::Stays;
         }
         if watch.binary {
-            return settle(clauses, trail, watch.clause, watch.blocker);
+            return settle(clauses, trail, watch.clause as usize, watch.blocker);
         }
-        self.visit_clause(clauses, trail, head, lit, place, watch.clause)
+        self.visit_clause(clauses, trail, head, lit, place, watch)
     }
 }
 
@@ -369,14 +495,19 @@ impl Watched {
         ensures pairs { IsTrue result → self.new.pairs.items ≡ self.old.pairs.items ++ (record { first = first; second = second }) ∷ [] }
         ensures ends { self.new.ends ≡ self.old.ends }
     {
+        if clause > u32::MAX as usize {
+            return false;
+        }
         let one = Watch {
-            clause,
             blocker: second,
+            clause: clause as u32,
+            resume: 0,
             binary,
         };
         let two = Watch {
-            clause,
             blocker: first,
+            clause: clause as u32,
+            resume: 0,
             binary,
         };
         if self.pairs.len() >= self.pairs.capacity() || !self.watches.push(first, one) {

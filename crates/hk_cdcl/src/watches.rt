@@ -12,10 +12,12 @@ use std::marker::Model;
 /// A clause in the watch list of one of its literals.
 #[derive(Clone, Copy)]
 pub struct Watch {
-    /// The clause's place in its list.
-    pub clause: usize,
     /// Another literal of the clause: where it is true, the clause need not be looked at.
     pub blocker: Lit,
+    /// The clause's place in its list.
+    pub clause: u32,
+    /// The place in the clause at which the last search for a literal that is not false ended.
+    pub resume: u16,
     /// Whether the clause has no other literal beside these two.
     pub binary: bool,
 }
@@ -73,6 +75,14 @@ impl WatchList {
             return true;
         }
         false
+    }
+
+    /// Writes the watch at the place.
+    fn set(&mut self, place: usize, watch: Watch)
+        requires { place < length self.old }
+        ensures { self.new ≡ slice_set self.old place watch }
+    {
+        self.items[place] = watch;
     }
 
     /// Removes the watch at the place; the last one takes its place.
@@ -147,6 +157,15 @@ impl Watches {
         ensures full { IsFalse result → self.new ≡ self.old }
     {
         self.lists[lit.code() as usize].push(watch)
+    }
+
+    /// Writes the literal's watch at the place.
+    pub fn set(&mut self, lit: Lit, place: usize, watch: Watch)
+        requires inside { code_of lit < length self.old }
+        requires place { place < length (watches_of self.old lit) }
+        ensures { self.new ≡ slice_set self.old (code_of lit) (slice_set (watches_of self.old lit) place watch) }
+    {
+        self.lists[lit.code() as usize].set(place, watch);
     }
 
     /// Removes the literal's watch at the place; its last one takes the place.

@@ -41,6 +41,15 @@ viewed view [] i k = refl
 viewed view (x ∷ ks) zero k = refl
 viewed view (x ∷ ks) (suc i) k = viewed view ks i k
 
+-- what is said of the second parts may be said of their images
+pub zipped : {K V W B : Type 0} (f : K × W → List B) (g : V → W) (ks : List K) (vs : List V) → flat_map (λ e. f (e.0, g e.1)) (zip ks vs) ≡ flat_map f (zip ks (map g vs))
+zipped f g [] vs = refl
+zipped f g (k ∷ ks) [] = refl
+zipped f g (k ∷ ks) (v ∷ vs) = ap (λ l. f (k, g v) ++ l) (zipped f g ks vs)
+
+pub zipped_all : {K V W B : Type 0} (f : K × W → List B) (g : V → W) (ks : List K) (vs : List V) (s a : List B) → a ≡ s ++ flat_map (λ e. f (e.0, g e.1)) (zip ks vs) → a ≡ s ++ flat_map f (zip ks (map g vs))
+zipped_all f g ks vs s a h = h ∙ ap (λ l. s ++ l) (zipped f g ks vs)
+
 pub mapped_within : {K W V : Type 0} (view : K → W) (ks : List K) (vs : List V) (i : ℕ) → i < length ks → i < length vs → i < length (zip (map view ks) vs)
 mapped_within view ks vs i first second = omega (arith, first, second, length-zip (map view ks) vs, length-map ks view)
 

@@ -11,7 +11,9 @@ use Rattle.hk_case.specs.Obligations.{obligations_of}
 use Rattle.hk_proof.specs.declared.Proof.{Proof}
 use Rattle.hk_proof.specs.declared.Proof.TheVariants.{Refuted, AllCases}
 use Rattle.hk_rows.specs.Texts.{line}
-use Rattle.hk_verdict.specs.Report.{named_text, field_name, two_texts, rejection_line, case_text, IsShown}
+use Rattle.hk_verdict.specs.declared.verdict.Verdict.{Verdict}
+use Rattle.hk_verdict.specs.declared.verdict.Verdict.TheVariants as verdict
+use Rattle.hk_verdict.specs.Report.{named_text, field_name, two_texts, rejection_line, case_text}
 use Rattle.hk_cert_text.specs.declared.entry.Entry.{Entry}
 use Rattle.hk_cert_text.specs.declared.entry.Entry.TheVariants.{Accept, Reject, Unknown, Memory}
 use Rattle.hk_cert_text.specs.Rows.{instance_line, row_line}
@@ -67,7 +69,9 @@ entries_text m s entries = flat_map (λ e. entry_text m s e.0 e.1) (zip s.transi
 abbrev pub certificate_text : ModuleView → Spec → List Entry → List ℕ
 certificate_text m s entries = line (codes "hkv certificate 1" ∷ []) ++ (entries_text m s entries ++ line (codes "end" ∷ []))
 
--- what an entry must be for its lines: an abstract state has the specification's shape
-abbrev pub IsWritable : Spec → Entry → Type 0
-IsWritable s (Reject o case) = IsShown s case
-IsWritable s _ = Unit {0}
+-- what the certificate says of a handler with this verdict; the line of an acceptance is that of the text
+abbrev pub entry_of : Verdict → Entry
+entry_of (verdict.Accepted proofs) = Accept 0 proofs
+entry_of (verdict.Rejected o case) = Reject o case
+entry_of (verdict.Unknown o instances clauses log) = Unknown o
+entry_of verdict.Memory = Memory

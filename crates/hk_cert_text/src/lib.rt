@@ -1,6 +1,6 @@
 //! The text of certificates, written.
 //!
-//! In come a kernel, its specification and an entry for each handler; out goes the text, in one buffer. `specs/Certificate.antt` has the
+//! In come a kernel, its specification and a verdict for each handler; out goes the text, in one buffer. `specs/Certificate.antt` has the
 //! text, `specs/Rows.antt` how instances and rows of logs are written; a rejection has the lines of the report.
 #![tactic(auto)]
 
@@ -12,4 +12,5 @@ mod room;
 mod write;
 
 pub use entry::Entry;
+pub use obligation::{kind_of, subject_of};
 pub use write::write_certificate;

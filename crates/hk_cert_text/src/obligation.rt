@@ -12,7 +12,7 @@ use spec_tree::{Field, Named, Spec, Transition};
 use std::alloc::AllocError;
 
 /// The word of an obligation.
-fn kind_of(obligation: Obligation) -> &'static [u8]
+pub fn kind_of(obligation: Obligation) -> &'static [u8]
     ensures { result.now ≡ kind_of obligation }
 {
     match obligation {
@@ -45,7 +45,7 @@ fn field_in(fields: &[Field], place: u32) -> &[u8]
 }
 
 /// The name of what an obligation speaks of.
-fn subject_of(spec: &Spec, obligation: Obligation) -> &[u8]
+pub fn subject_of(spec: &Spec, obligation: Obligation) -> &[u8]
     ensures { result.now ≡ subject_of (view_spec spec.now) obligation }
 {
     match obligation {

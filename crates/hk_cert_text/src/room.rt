@@ -1,9 +1,9 @@
 //! How many bytes the proofs of a certificate take, so that the buffer has the room before the first byte.
 
-use crate::entry::Entry;
 use hk_inst::Instance;
 use hk_lrat::LratRow;
 use hk_proof::Proof;
+use hk_verdict::Verdict;
 use itoa::Buffer;
 
 /// The most bytes of a line's words, beside names and numbers.
@@ -99,18 +99,18 @@ fn proofs(proofs: &[Proof]) -> usize {
     room
 }
 
-/// The bytes of an entry, but for names and state blocks.
-fn entry(entry: &Entry) -> usize {
-    match entry {
-        Entry::Accept { proofs: shown, .. } => proofs(shown.as_slice()).saturating_add(WORDS),
+/// The bytes of a handler's lines, but for names and state blocks.
+fn entry(verdict: &Verdict) -> usize {
+    match verdict {
+        Verdict::Accepted { proofs: shown } => proofs(shown.as_slice()).saturating_add(WORDS),
         _ => WORDS,
     }
 }
 
 /// The bytes of a certificate, but for names and state blocks, for which the buffer grows where that does not suffice.
-pub fn room_of(entries: &[Entry]) -> usize {
+pub fn room_of(verdicts: &[Verdict]) -> usize {
     let mut room = WORDS;
-    for each in entries {
+    for each in verdicts {
         room = room.saturating_add(entry(each));
     }
     room

@@ -9,11 +9,10 @@ ghost use Rattle.spec_tree.specs.View.{view_spec, view_transition};
 ghost use Rattle.hk_case.specs.Obligations.{obligations_of};
 ghost use Rattle.hk_rows.specs.Rows.{memory_text};
 ghost use Rattle.hk_verdict.specs.Entries as report;
-ghost use Rattle.hk_verdict.specs.Report.{args_text, case_text, rejection_line, two_texts, IsShown};
-ghost use Rattle.hk_cert_text.specs.Certificate.{proved_text, proofs_text, entry_text, entries_text, certificate_text, IsWritable};
+ghost use Rattle.hk_verdict.specs.Report.{args_text, case_text, rejection_line, two_texts, IsShown, IsShownVerdict};
+ghost use Rattle.hk_cert_text.specs.Certificate.{proved_text, proofs_text, entry_of, entry_text, entries_text, certificate_text};
 
 use crate::buffer::Text;
-use crate::entry::Entry;
 use crate::obligation::{add_prove, add_rejection, add_unknown};
 use crate::refutation::add_proof;
 use crate::room::room_of;
@@ -21,6 +20,7 @@ use hk_case::{Case, Obligation, obligations};
 use hk_proof::Proof;
 use hk_rows::Part;
 use hk_seq::Seq;
+use hk_verdict::Verdict;
 use ir_kernel::Kernel;
 use ir_layout::KMemory;
 use spec_tree::{Spec, Transition};
@@ -154,21 +154,21 @@ fn add_entry(
     kernel: &Kernel,
     spec: &Spec,
     transition: &Transition,
-    entry: &Entry,
+    verdict: &Verdict,
 ) -> Result<(), AllocError>
     requires sorted { IsWellSorted (view_spec spec.now) }
-    requires shape { IsWritable (view_spec spec.now) entry.now }
-    ensures { OnOk result (out.new.bytes.items ≡ out.old.bytes.items ++ entry_text (view_module kernel.now) (view_spec spec.now) (view_transition transition.now) entry.now) }
+    requires shape { IsShownVerdict (view_spec spec.now) verdict.now }
+    ensures { OnOk result (out.new.bytes.items ≡ out.old.bytes.items ++ entry_text (view_module kernel.now) (view_spec spec.now) (view_transition transition.now) (entry_of verdict.now)) }
 {
-    match entry {
-        Entry::Accept { proofs, .. } => {
+    match verdict {
+        Verdict::Accepted { proofs } => {
             add_accepted(alloc, out, spec, transition, proofs.as_slice())
         }
-        Entry::Reject { obligation, case } => {
+        Verdict::Rejected { obligation, case } => {
             add_rejected(out, kernel, spec, transition, *obligation, case)
         }
-        Entry::Unknown(obligation) => add_unknown(out, spec, transition, *obligation),
-        Entry::Memory => add_named(out, b"memory ", transition.name.as_bytes()),
+        Verdict::Unknown { obligation, .. } => add_unknown(out, spec, transition, *obligation),
+        Verdict::Memory => add_named(out, b"memory ", transition.name.as_bytes()),
     }
 }
 
@@ -178,34 +178,34 @@ fn add_all(
     out: &mut Text,
     kernel: &Kernel,
     spec: &Spec,
-    entries: &[Entry],
+    verdicts: &[Verdict],
 ) -> Result<(), AllocError>
     requires sorted { IsWellSorted (view_spec spec.now) }
-    requires shapes { All (IsWritable (view_spec spec.now)) entries.now }
-    ensures { OnOk result (out.new.bytes.items ≡ out.old.bytes.items ++ entries_text (view_module kernel.now) (view_spec spec.now) entries.now) }
+    requires shapes { All (IsShownVerdict (view_spec spec.now)) verdicts.now }
+    ensures { OnOk result (out.new.bytes.items ≡ out.old.bytes.items ++ entries_text (view_module kernel.now) (view_spec spec.now) (map entry_of verdicts.now)) }
 {
-    for (transition, entry) in spec.transitions.as_slice().iter().zip(entries) {
-        add_entry(alloc, out, kernel, spec, transition, entry)?;
+    for (transition, verdict) in spec.transitions.as_slice().iter().zip(verdicts) {
+        add_entry(alloc, out, kernel, spec, transition, verdict)?;
     }
     Ok(())
 }
 
-/// The text of a certificate with these entries, one for each handler in the order of the specification.
+/// The certificate of these verdicts, one for each handler in the order of the specification.
 ///
-/// Where there are fewer entries than handlers, or fewer proofs in an acceptance than obligations, the lines of the others are left out.
+/// Where there are fewer verdicts than handlers, or fewer proofs in an acceptance than obligations, the lines of the others are left out.
 pub fn write_certificate(
     alloc: Global,
     kernel: &Kernel,
     spec: &Spec,
-    entries: &[Entry],
+    verdicts: &[Verdict],
 ) -> Result<Vec<u8>, AllocError>
     requires sorted { IsWellSorted (view_spec spec.now) }
-    requires shapes { All (IsWritable (view_spec spec.now)) entries.now }
-    ensures { IfOk result (λ text. text.items ≡ certificate_text (view_module kernel.now) (view_spec spec.now) entries.now) }
+    requires shapes { All (IsShownVerdict (view_spec spec.now)) verdicts.now }
+    ensures { IfOk result (λ text. text.items ≡ certificate_text (view_module kernel.now) (view_spec spec.now) (map entry_of verdicts.now)) }
 {
-    let mut out = Text::with_room(alloc, room_of(entries))?;
+    let mut out = Text::with_room(alloc, room_of(verdicts))?;
     out.add_line(&[Part::Text(b"hkv certificate 1")])?;
-    add_all(alloc, &mut out, kernel, spec, entries)?;
+    add_all(alloc, &mut out, kernel, spec, verdicts)?;
     out.add_line(&[Part::Text(b"end")])?;
     Ok(out.into_bytes())
 }

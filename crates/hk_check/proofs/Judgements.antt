@@ -7,6 +7,7 @@ use Rattle.hk_inst.specs.declared.instance.Instance.{Instance}
 use Rattle.hk_inst.specs.Exactness.{Exact}
 use Rattle.hk_inst.specs.Questions.{Asked}
 use Rattle.hk_lrat.specs.declared.log.LratRow.{LratRow}
+use Rattle.hk_lrat.specs.Log.{log_fault}
 use Rattle.hk_proof.specs.declared.Proof.{Proof}
 use Rattle.hk_proof.specs.declared.Proof.TheVariants.{Refuted}
 use Rattle.ir_ast.specs.Program.{ModuleView}
@@ -22,18 +23,18 @@ use Rattle.hk_oblig.specs.Asking.{Asks}
 use Rattle.hk_exhaust.specs.Answers.{Finds}
 use Rattle.hk_decide.specs.Right.{IsExactFor}
 use Rattle.hk_check.specs.Once.{once}
-use Rattle.hk_check.specs.Told.{IsViolated}
+use Rattle.hk_check.specs.Told.{IsViolating}
 use Rattle.hk_check.specs.Trials.{IsJudged, IsTriedOver, IsTried}
 use Rattle.hk_check.specs.declared.answers.Trial.{Trial}
-use Rattle.hk_check.specs.declared.answers.Trial.TheVariants.{Shown, Refused, NoSuch}
+use Rattle.hk_check.specs.declared.answers.Trial.TheVariants.{Shown, Refused, Violated, NoSuch}
 use Rattle.hk_check.proofs.Once.{exact_repeated}
 
 -- ---- over all cases
 
-pub violated_by : (m : ModuleView) (objects : List Object) (s : Spec) (t : Transition) (o : Obligation) (answer : Option Case) (case : Case) → answer ≡ Some case → Finds m objects s t o answer → IsViolated m objects s t o
+pub violated_by : (m : ModuleView) (objects : List Object) (s : Spec) (t : Transition) (o : Obligation) (answer : Option Case) (case : Case) → answer ≡ Some case → Finds m objects s t o answer → IsViolating m objects s t o case
 violated_by m objects s t o answer case is found =
     let there : IsCase objects s t o case × Violates m s t o case = subst (Finds m objects s t o) is found in
-    record { case = case; shape = there.0; violates = there.1 }
+    record { shape = there.0; violates = there.1 }
 
 -- ---- over a question
 
@@ -48,7 +49,8 @@ exact_of q now instances kept list goal added kept_is e =
 pub judged_over : (q now : Asked) (instances kept : List Instance) (list : Clauses) (log : List LratRow) (trial : Trial) → ((v : Reading) → value now.nodes now.goal v ≡ value q.nodes q.goal v)
     → now.instances ≡ once instances → kept ≡ now.instances → Exact (λ v. nat_eq (value now.nodes now.goal v) 1) kept list → IsJudged list log trial → IsTriedOver q instances log trial
 judged_over q now instances kept list log Shown goal added kept_is e j = record { list = list; exact = exact_of q now instances kept list goal added kept_is e; judged = j }
-judged_over q now instances kept list log (Refused row reason) goal added kept_is e j = record { list = list; exact = exact_of q now instances kept list goal added kept_is e; judged = j }
+judged_over q now instances kept list log (Refused clauses row reason) goal added kept_is e j = record { list = list; exact = exact_of q now instances kept list goal added kept_is e; judged = j }
+judged_over q now instances kept list log (Violated case) goal added kept_is e j = absurd j
 judged_over q now instances kept list log (NoSuch place) goal added kept_is e j = absurd j
 
 pub judged : {E : Type 0} (q now : Asked) (instances kept : List Instance) (list : Clauses) (log : List LratRow) (stop : Option ℕ) (r : Result Trial E) → ((v : Reading) → value now.nodes now.goal v ≡ value q.nodes q.goal v)
@@ -81,7 +83,11 @@ module _ (m : ModuleView) (objects : List Object) (origins : List Origin) (s : S
     none_violates instances h.list given h.exact h.judged.unsatisfiable,
     record { list = h.list; exact = exact_for instances h.list h.exact; refutes = h.judged.refutes; accepted = h.judged.accepted },
   )
-  tried_by_log instances log (Refused row reason) given h = record { list = h.list; exact = exact_for instances h.list h.exact; fault = h.judged }
+  tried_by_log instances log (Refused clauses row reason) given h = record {
+    exact = subst (λ l. IsExactFor m objects s t o instances l) (sym h.judged.0) (exact_for instances h.list h.exact);
+    fault = subst (λ l. log_fault l log ≡ Some (row, reason)) (sym h.judged.0) h.judged.1;
+  }
+  tried_by_log instances log (Violated case) given h = absurd h.judged
   tried_by_log instances log (NoSuch place) given h = record {
     instance = h.stops.instance;
     there = h.stops.there;

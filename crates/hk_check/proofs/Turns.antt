@@ -10,11 +10,13 @@ use Rattle.spec_tree.specs.Plain.{Transition, Spec}
 use Rattle.hk_case.specs.declared.Obligation.{Obligation}
 use Rattle.hk_case.specs.Obligations.{obligations_of, IsObligation}
 use Rattle.hk_case.specs.Violation.{IsNeverViolated}
+use Rattle.hk_case.specs.declared.Case.{Case}
+use Rattle.hk_cnf.specs.Clauses.{Clauses}
 use Rattle.hk_lrat.specs.declared.log.RowReason.{RowReason}
 use Rattle.hk_proof.specs.declared.Proof.{Proof}
 use Rattle.hk_proof.specs.declared.Proof.TheVariants.{AllCases}
 use Rattle.hk_decide.specs.Right.{IsProof, AreProofs, IsSmall}
-use Rattle.hk_check.specs.Told.{AreFew, AreShown, IsChecked, IsFirst, IsRefused, IsNoSuchOf}
+use Rattle.hk_check.specs.Told.{AreFew, AreShown, IsChecked, IsFirst, IsRefused, IsViolated, IsNoSuchOf}
 use Rattle.hk_check.specs.Trials.{IsTried}
 use Rattle.hk_check.specs.declared.answers.Trial.{Trial}
 use Rattle.hk_check.specs.declared.answers.Trial.TheVariants as trial
@@ -123,9 +125,14 @@ module _ (m : ModuleView) (objects : List Object) (s : Spec) (t : Transition) wh
       before = subst (λ (ps : List Proof). AreShown m objects s t (take k (obligations_of s t)) (take k ps)) same (subst (λ (os : List Obligation). AreShown m objects s t (take k os) (take k given)) all h);
     }
 
-    pub refused_at : (k : ℕ) (o : Obligation) (p : Proof) (tried : Trial) (row : ℕ) (reason : RowReason) → k < length owed → AreShown m objects s t (take k owed) (take k given)
-        → p ≡ get_or given k p → tried ≡ trial.Refused row reason → IsTried m objects s t (get_or owed k o) p tried → IsRefused m objects s t proofs (get_or owed k o) row reason
-    refused_at k o p tried row reason low h at is there =
+    pub refused_at : (k : ℕ) (o : Obligation) (p : Proof) (tried : Trial) (list : Clauses) (row : ℕ) (reason : RowReason) → k < length owed → AreShown m objects s t (take k owed) (take k given)
+        → p ≡ get_or given k p → tried ≡ trial.Refused list row reason → IsTried m objects s t (get_or owed k o) p tried → IsRefused m objects s t proofs k (get_or owed k o) list row reason
+    refused_at k o p tried list row reason low h at is there =
+        record { proof = get_or given k p; first = first_at k o p low h; refusal = subst (IsTried m objects s t (get_or owed k o) (get_or given k p)) is (there_too k o p tried at there) }
+
+    pub violated_at : (k : ℕ) (o : Obligation) (p : Proof) (tried : Trial) (case : Case) → k < length owed → AreShown m objects s t (take k owed) (take k given)
+        → p ≡ get_or given k p → tried ≡ trial.Violated case → IsTried m objects s t (get_or owed k o) p tried → IsViolated m objects s t proofs (get_or owed k o) case
+    violated_at k o p tried case low h at is there =
         record { place = k; proof = get_or given k p; first = first_at k o p low h; refusal = subst (IsTried m objects s t (get_or owed k o) (get_or given k p)) is (there_too k o p tried at there) }
 
     pub no_such_at : (k : ℕ) (o : Obligation) (p : Proof) (tried : Trial) (place : ℕ) → k < length owed → AreShown m objects s t (take k owed) (take k given)

@@ -8,7 +8,6 @@ use Rattle.hk_inst.specs.Truths.{IsInstance}
 use Rattle.hk_inst.specs.Questions.{Asked, IsQuestion}
 use Rattle.hk_lrat.specs.declared.log.LratRow.{LratRow}
 use Rattle.hk_lrat.specs.declared.log.RowReason.{RowReason}
-use Rattle.hk_lrat.specs.declared.log.RowReason.TheVariants.{L7}
 use Rattle.hk_lrat.specs.Log.{log_fault}
 use Rattle.hk_proof.specs.declared.Proof.{Proof}
 use Rattle.hk_proof.specs.declared.Proof.TheVariants.{Refuted, AllCases}
@@ -42,22 +41,26 @@ pub record AreShown (m : ModuleView) (objects : List Object) (s : Spec) (t : Tra
 
 -- ---- a proof that is none
 
--- the log first fails at this row for this reason, over clauses that are exact for the obligation and the instances
-pub record IsFailing (m : ModuleView) (objects : List Object) (s : Spec) (t : Transition) (o : Obligation) (instances : List Instance) (log : List LratRow) (row : ℕ) (reason : RowReason) : Type 0 where
-  pub list : Clauses
+-- over these clauses, which are exact for the obligation and the instances, the log first fails at this row for this reason
+pub record IsFailing (m : ModuleView) (objects : List Object) (s : Spec) (t : Transition) (o : Obligation) (instances : List Instance) (log : List LratRow)
+    (list : Clauses) (row : ℕ) (reason : RowReason) : Type 0 where
   pub exact : IsExactFor m objects s t o instances list
   pub fault : log_fault list log ≡ Some (row, reason)
 
--- a case of the obligation's shape violates it
-pub record IsViolated (m : ModuleView) (objects : List Object) (s : Spec) (t : Transition) (o : Obligation) : Type 0 where
-  pub case : Case
+-- this case of the obligation's shape violates it
+pub record IsViolating (m : ModuleView) (objects : List Object) (s : Spec) (t : Transition) (o : Obligation) (case : Case) : Type 0 where
   pub shape : IsCase objects s t o case
   pub violates : Violates m s t o case
 
--- why a proof is refused
-abbrev pub IsRefusal : ModuleView → List Object → Spec → Transition → Obligation → Proof → ℕ → RowReason → Type 0
-IsRefusal m objects s t o (Refuted instances log) row reason = IsFailing m objects s t o instances log row reason
-IsRefusal m objects s t o AllCases row reason = (row ≡ 0) × (reason ≡ L7) × IsViolated m objects s t o
+-- why the log of a proof is refused
+abbrev pub IsRefusal : ModuleView → List Object → Spec → Transition → Obligation → Proof → Clauses → ℕ → RowReason → Type 0
+IsRefusal m objects s t o (Refuted instances log) list row reason = IsFailing m objects s t o instances log list row reason
+IsRefusal m objects s t o AllCases list row reason = ⊥
+
+-- why the proof that all cases were tried is none
+abbrev pub IsViolation : ModuleView → List Object → Spec → Transition → Obligation → Proof → Case → Type 0
+IsViolation m objects s t o (Refuted instances log) case = ⊥
+IsViolation m objects s t o AllCases case = IsViolating m objects s t o case
 
 -- the instance at this place speaks of no reads or quantifier of a question, which asks the obligation, over arrays that may stand for the
 -- objects, and to which the instances before it were added
@@ -90,11 +93,16 @@ pub record IsFirst (m : ModuleView) (objects : List Object) (s : Spec) (t : Tran
   pub given : slice_get proofs place ≡ Some p
   pub before : AreShown m objects s t (take place (obligations_of s t)) (take place proofs)
 
-pub record IsRefused (m : ModuleView) (objects : List Object) (s : Spec) (t : Transition) (proofs : List Proof) (o : Obligation) (row : ℕ) (reason : RowReason) : Type 0 where
+pub record IsRefused (m : ModuleView) (objects : List Object) (s : Spec) (t : Transition) (proofs : List Proof) (place : ℕ) (o : Obligation) (list : Clauses) (row : ℕ) (reason : RowReason) : Type 0 where
+  pub proof : Proof
+  pub first : IsFirst m objects s t proofs place o proof
+  pub refusal : IsRefusal m objects s t o proof list row reason
+
+pub record IsViolated (m : ModuleView) (objects : List Object) (s : Spec) (t : Transition) (proofs : List Proof) (o : Obligation) (case : Case) : Type 0 where
   pub place : ℕ
   pub proof : Proof
   pub first : IsFirst m objects s t proofs place o proof
-  pub refusal : IsRefusal m objects s t o proof row reason
+  pub refusal : IsViolation m objects s t o proof case
 
 pub record IsNoSuchOf (m : ModuleView) (objects : List Object) (s : Spec) (t : Transition) (proofs : List Proof) (place instance : ℕ) : Type 0 where
   pub obligation : Obligation
@@ -104,5 +112,6 @@ pub record IsNoSuchOf (m : ModuleView) (objects : List Object) (s : Spec) (t : T
 
 abbrev pub IsTold : ModuleView → List Object → Spec → Transition → List Proof → Checked → Type 0
 IsTold m objects s t proofs checked.Holds = IsChecked m objects s t proofs
-IsTold m objects s t proofs (checked.Refused o row reason) = IsRefused m objects s t proofs o row reason
+IsTold m objects s t proofs (checked.Refused place o list row reason) = IsRefused m objects s t proofs place o list row reason
+IsTold m objects s t proofs (checked.Violated o case) = IsViolated m objects s t proofs o case
 IsTold m objects s t proofs (checked.NoSuch place instance) = IsNoSuchOf m objects s t proofs place instance

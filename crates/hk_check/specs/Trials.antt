@@ -17,9 +17,9 @@ use Rattle.hk_case.specs.declared.Obligation.{Obligation}
 use Rattle.hk_case.specs.Violation.{IsNeverViolated}
 use Rattle.hk_decide.specs.Right.{IsProof}
 use Rattle.hk_check.specs.Once.{once}
-use Rattle.hk_check.specs.Told.{IsRefusal, IsNoSuch}
+use Rattle.hk_check.specs.Told.{IsRefusal, IsViolation, IsNoSuch}
 use Rattle.hk_check.specs.declared.answers.Trial.{Trial}
-use Rattle.hk_check.specs.declared.answers.Trial.TheVariants.{Shown, Refused, NoSuch}
+use Rattle.hk_check.specs.declared.answers.Trial.TheVariants.{Shown, Refused, Violated, NoSuch}
 
 -- ---- instances
 
@@ -45,7 +45,8 @@ pub record IsRefuting (list : Clauses) (log : List LratRow) : Type 0 where
 
 abbrev pub IsJudged : Clauses → List LratRow → Trial → Type 0
 IsJudged list log Shown = IsRefuting list log
-IsJudged list log (Refused row reason) = log_fault list log ≡ Some (row, reason)
+IsJudged list log (Refused clauses row reason) = (clauses ≡ list) × (log_fault list log ≡ Some (row, reason))
+IsJudged list log (Violated case) = ⊥
 IsJudged list log (NoSuch place) = ⊥
 
 -- over the clauses of a question, once these instances were added
@@ -68,5 +69,6 @@ IsTriedOver q instances log trial = IsJudgedOver q instances log trial
 
 abbrev pub IsTried : ModuleView → List Object → Spec → Transition → Obligation → Proof → Trial → Type 0
 IsTried m objects s t o p Shown = IsNeverViolated m objects s t o × IsProof m objects s t o p
-IsTried m objects s t o p (Refused row reason) = IsRefusal m objects s t o p row reason
+IsTried m objects s t o p (Refused clauses row reason) = IsRefusal m objects s t o p clauses row reason
+IsTried m objects s t o p (Violated case) = IsViolation m objects s t o p case
 IsTried m objects s t o p (NoSuch place) = IsNoSuch m objects s t o p place

@@ -73,13 +73,20 @@ pub fn check(
         let proof = proof_at(given, place);
         match try_proof(alloc, kernel, spec, h, &mut prepared, obligation, proof)? {
             Trial::Shown => {}
-            Trial::Refused { row, reason } => {
+            Trial::Refused {
+                clauses,
+                row,
+                reason,
+            } => {
                 return Ok(Checked::Refused {
+                    proof: place,
                     obligation,
+                    clauses,
                     row,
                     reason,
                 });
             }
+            Trial::Violated { case } => return Ok(Checked::Violated { obligation, case }),
             Trial::NoSuch { place: instance } => {
                 return Ok(Checked::NoSuch {
                     proof: place,

@@ -20,7 +20,7 @@ use hk_case::Obligation;
 use hk_cnf::ClauseList;
 use hk_exhaust::find_in_all;
 use hk_inst::{InstanceList, Question};
-use hk_lrat::{LratLog, RefuteStop, RowReason, refutes};
+use hk_lrat::{LratLog, RefuteStop, refutes};
 use hk_oblig::{Prepared, cases_are_of_readings};
 use hk_proof::Proof;
 use ir_kernel::Kernel;
@@ -28,12 +28,16 @@ use spec_tree::Spec;
 use std::alloc::{AllocError, Global};
 
 // Tries a log over clauses.
-fn judge(alloc: Global, clauses: &ClauseList, log: &LratLog) -> Result<Trial, AllocError>
-    ensures { IfOk result (IsJudged clauses.now log.now) }
+fn judge(alloc: Global, clauses: ClauseList, log: &LratLog) -> Result<Trial, AllocError>
+    ensures { IfOk result (IsJudged clauses log.now) }
 {
-    match refutes(alloc, clauses, log) {
+    match refutes(alloc, &clauses, log) {
         Ok(()) => Ok(Trial::Shown),
-        Err(RefuteStop::Row { row, reason }) => Ok(Trial::Refused { row, reason }),
+        Err(RefuteStop::Row { row, reason }) => Ok(Trial::Refused {
+            clauses,
+            row,
+            reason,
+        }),
         Err(RefuteStop::Memory) => Err(AllocError),
     }
 }
@@ -54,7 +58,7 @@ pub(crate) fn try_log(
     drop(kept);
     match added? {
         Some(place) => Ok(Trial::NoSuch { place }),
-        None => judge(alloc, &clauses, log),
+        None => judge(alloc, clauses, log),
     }
 }
 
@@ -75,13 +79,7 @@ fn try_all(
         IfOk result (IsTried (view_module kernel.now) l.objects (view_spec spec.now) t o AllCases) }
 {
     match find_in_all(alloc, kernel, spec, h, o)? {
-        Some(case) => {
-            drop(case);
-            Ok(Trial::Refused {
-                row: 0,
-                reason: RowReason::L7,
-            })
-        }
+        Some(case) => Ok(Trial::Violated { case }),
         None => Ok(Trial::Shown),
     }
 }

@@ -17,6 +17,3 @@ mod verdicts;
 pub use counts::case_bits;
 pub use search::find_in_all;
 pub use verdicts::violates;
-
-#[cfg(test)]
-mod tests;

@@ -20,6 +20,7 @@ pub mod FoundTerms
 pub mod Beginning
 pub mod KeptQuestions
 pub mod SetNumbers
+pub mod Digits
 pub mod Subjects
 pub mod OurDemands
 pub mod Lengthening
@@ -38,3 +39,4 @@ pub mod FewCopies
 pub mod ApartNumbers
 pub mod Room
 pub mod InstancesLeft
+pub mod ReadNumberLaws

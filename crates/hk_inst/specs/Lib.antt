@@ -10,3 +10,4 @@ pub mod Left
 pub mod Growing
 pub mod States
 pub mod Violations
+pub mod ReadNumbers

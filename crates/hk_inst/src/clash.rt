@@ -1,6 +1,6 @@
 //! Pairs of reads that an assignment violates: each read is compared with the first one at its place.
 
-ghost use Rattle.std.specs.Prelude.{◌≡◌, ℕ, ◌<◌, ◌≤◌, [], length, None, All, Contains, IfOk, OnOk, IfSome, IfNone, true};
+ghost use Rattle.std.specs.Prelude.{◌≡◌, ℕ, ◌<◌, ◌≤◌, [], length, map, Some, None, All, Contains, IfOk, OnOk, IfSome, IfNone, true};
 ghost use Rattle.hk_term.specs.Meaning.{Reading};
 ghost use Rattle.hk_term.specs.Tables.{entry_at};
 ghost use Rattle.hk_cnf.specs.Literal.{IsWithin};
@@ -8,15 +8,16 @@ ghost use Rattle.hk_blast.specs.Blasted.{word_in};
 ghost use Rattle.hk_inst.specs.Inputs.{number_in, entry_number};
 ghost use Rattle.hk_inst.specs.Truths.{IsTrue, is_among};
 ghost use Rattle.hk_inst.specs.Questions.{Asked};
+ghost use Rattle.hk_inst.specs.ReadNumbers.{place_read, numbers_at};
 ghost use Rattle.hk_inst.specs.States.{asked_of};
 ghost use Rattle.hk_inst.specs.Violations.{IsViolated, Clashes, AgreesWithFirst, first_read};
 
-use crate::completion::{number_of, set_entry};
+use crate::completion::{ReadNumbers, number_of, set_entry};
 use crate::instance::{Instance, InstanceList};
 use crate::state::State;
 use crate::subject::read_of;
 use hk_blast::BitTable;
-use hk_term::{ArrayTable, TermId, Terms};
+use hk_term::{ArrayTable, Node, TermId, Terms};
 use std::alloc::{AllocError, Global};
 
 // The number of the first read at each place of an array.
@@ -84,17 +85,50 @@ fn push_pair(first: Option<u64>, k: usize, found: &mut InstanceList) -> Result<(
     Ok(())
 }
 
+// Whether the number of a read is that of the first read at its place.
+fn agrees(node: &Node, numbers: ReadNumbers, arrays: &ArrayTable) -> bool
+    ensures { result ≡ true → (f : ℕ → ℕ) → numbers.place ≡ place_read (Some node.now) f → (array size i : ℕ) → node.now ≡ Node.Select array size i → numbers.number ≡ entry_at arrays.now array (f i) }
+{
+    match node {
+        Node::Select { array, .. } => arrays.get(*array, numbers.place) == numbers.number,
+        Node::Const { .. } => true,
+        Node::Var { .. } => true,
+        Node::Unary { .. } => true,
+        Node::Binary { .. } => true,
+        Node::Choose { .. } => true,
+        Node::Resize { .. } => true,
+        Node::ForAll { .. } => true,
+    }
+}
+
+// Whether each read agrees with the first one at its place.
+fn all_agree(terms: &Terms, reads: &[u64], numbers: &[ReadNumbers], arrays: &ArrayTable) -> bool
+    requires there { All (λ t. t < length terms.now) reads.now }
+    requires numbers { length numbers.now ≡ length reads.now }
+    ensures { result ≡ true → (f : ℕ → ℕ) → numbers.now ≡ map (numbers_at terms.now f) reads.now → ((array place : ℕ) → entry_at arrays.now array place ≡ entry_number terms.now f reads.now array place) → All (AgreesWithFirst terms.now f reads.now) reads.now }
+{
+    for k in 0..reads.len() {
+        let node = terms.node(TermId::at(reads[k]));
+        if !agrees(node, numbers[k], arrays) {
+            return false;
+        }
+    }
+    true
+}
+
 // For each read whose value differs from that of the first read at its place, the pair of both. The reads are gone through
-// once.
+// once, and once more where two differ.
 pub(crate) fn clashes(
     alloc: Global,
     s: &State,
     values: &[bool],
+    numbers: &[ReadNumbers],
     arrays: &ArrayTable,
 ) -> Result<InstanceList, AllocError>
     requires there { All (λ t. t < length s.now.terms) s.now.reads.items }
     requires short { (k : ℕ) → length (word_in s.now.bits k) ≤ 64 }
     requires within { (k : ℕ) → All (IsWithin (length values.now)) (word_in s.now.bits k) }
+    requires numbers { numbers.now ≡ map (numbers_at s.now.terms (number_in s.now.bits values.now)) s.now.reads.items }
     requires arrays { (array place : ℕ) → entry_at arrays.now array place ≡ entry_number s.now.terms (number_in s.now.bits values.now) s.now.reads.items array place }
     requires added { (a b : ℕ) (r : Reading) → is_among s.now.instances (Instance.Pair a b) ≡ true → IsTrue (asked_of s.now).nodes (asked_of s.now).table (number_in s.now.bits values.now) r (Instance.Pair a b) }
     ensures found { IfOk result (λ l. (r : Reading) → All (IsViolated (asked_of s.now) (number_in s.now.bits values.now) r) l) }
@@ -102,6 +136,9 @@ pub(crate) fn clashes(
 {
     let mut found = InstanceList::new(alloc);
     let reads = s.reads.as_slice();
+    if all_agree(&s.terms, reads, numbers, arrays) {
+        return Ok(found);
+    }
     let firsts = firsts(alloc, &s.terms, &s.bits, reads, values)?;
     for k in 0..reads.len() {
         let first = clash(s, values, arrays, &firsts, TermId::at(reads[k]));

@@ -124,7 +124,7 @@ impl Question {
         ensures reading { IfOk result (λ v. reading_of v ≡ completed self.now.nodes self.now.table (number_in self.now.table.words a.now)) }
         ensures decides { IfOk result (λ v. ((i : Instance) → is_among self.now.instances i ≡ false → IsTrue self.now.nodes self.now.table (number_in self.now.table.words a.now) (reading_of v) i) → value self.now.nodes self.now.goal (reading_of v) ≡ 1) }
     {
-        let case = completion(alloc, &self.state, a)?;
+        let (case, _numbers) = completion(alloc, &self.state, a)?;
         Ok(case)
     }
 
@@ -158,8 +158,8 @@ impl Question {
         ensures holds { IfOk result (λ r. value self.now.nodes self.now.goal (completed self.now.nodes self.now.table (number_in self.now.table.words a.now)) ≡ 1 → r.1 ≡ []) }
         ensures each { IfOk result (λ r. All (IsViolated self.now (number_in self.now.table.words a.now) (completed self.now.nodes self.now.table (number_in self.now.table.words a.now))) r.1) }
     {
-        let mut case = completion(alloc, &self.state, a)?;
-        let found = violated_in(alloc, &self.state, a, &mut case)?;
+        let (mut case, numbers) = completion(alloc, &self.state, a)?;
+        let found = violated_in(alloc, &self.state, a, numbers.as_slice(), &mut case)?;
         Ok((case, found))
     }
 

@@ -1,6 +1,8 @@
 pub mod Accept
 pub mod Denied
 pub mod Look
+pub mod Ranking
+pub mod Renaming
 pub mod Raising
 pub mod Refuted
 pub mod Sound

@@ -5,6 +5,7 @@ pub mod Log
 pub mod Raised
 pub mod LogText
 pub mod Marks
+pub mod Ranks
 pub mod Refutes
 pub mod Room
 pub mod Tokens

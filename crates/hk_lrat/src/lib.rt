@@ -9,6 +9,7 @@ mod hints;
 mod log;
 mod log_read;
 mod marks;
+mod rank;
 mod refutation;
 mod renumber;
 mod table;

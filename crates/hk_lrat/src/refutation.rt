@@ -7,6 +7,7 @@ ghost use Rattle.hk_lrat.specs.Refutes.{Answers, OnRow, Refutes, StopsAt};
 
 use crate::checker::Checker;
 use crate::log::{LratLog, LratRow, RefuteStop, RowReason};
+use crate::rank::ranked;
 use hk_cnf::ClauseList;
 use std::alloc::Global;
 
@@ -44,6 +45,16 @@ fn try_rows(alloc: Global, list: &ClauseList, log: &LratLog) -> Result<(), Refut
     })
 }
 
+/// The same, over the ranks of the variables that occur where these are few.
+fn try_log(alloc: Global, list: &ClauseList, log: &LratLog) -> Result<(), RefuteStop>
+    ensures { Answers result (log_fault list.now log.now) }
+{
+    match ranked(alloc, list, log)? {
+        Some((list, log)) => try_rows(alloc, &list, &log),
+        None => try_rows(alloc, list, log),
+    }
+}
+
 /// Tries the rows of the log in their order, up to the first accepted empty clause, which gives Ok: no assignment
 /// satisfies the list. The first row that is refused is named with its first reason; `L7` names the number of rows
 /// where all are accepted and none adds the empty clause.
@@ -53,5 +64,5 @@ pub fn refutes(alloc: Global, list: &ClauseList, log: &LratLog) -> Result<(), Re
     ensures refuted { OnOk result (Refutes list.now log.now) }
     ensures not_refuted { IfErr result (λ stop. OnRow stop (¬ (Refutes list.now log.now))) }
 {
-    try_rows(alloc, list, log)
+    try_log(alloc, list, log)
 }

@@ -17,6 +17,12 @@ const PIGEONS: &str =
 const PIGEONS_PROOF: &str =
     "23 -1 -5 0 5 6 7 11 14 3 15 4 18 20 22 0\n24 -1 -6 0 5 6 7 17 20 3 12 14 16 4 21 0\n25 -2 -4 0 5 8 9 11 12 3 13 4 18 20 22 0\n26 -2 -6 0 11 12 13 17 20 3 6 8 10 4 21 0\n27 -3 -4 0 5 8 9 17 18 3 12 14 16 4 19 0\n28 -3 -5 0 11 14 15 17 18 3 6 8 10 4 19 0\n29 -1 0 5 6 7 23 2 17 20 3 12 16 4 21 0\n29 d 23 24 0\n30 -2 0 11 12 13 25 2 17 20 3 6 10 4 21 0\n31 -3 0 17 18 19 27 2 11 14 3 6 10 4 15 0\n32 0 29 30 1 17 18 19 27 2 14 3 10 4 15 0\n";
 
+/// A variable and its negation, where the header states as many variables as the number of that one.
+const GREAT: &str = "p cnf 1000000000 2\n1000000000 0\n-1000000000 0\n";
+
+/// The same, with the variable 5 for the variable 1,000,000,000, under the same header.
+const DECLARED: &str = "p cnf 1000000000 2\n5 0\n-5 0\n";
+
 /// The list of a clause file, if it is no long one.
 fn list_of(alloc: Global, file: &str) -> Result<ClauseList, CnfStop> {
     if file.len() >= 1_000_000 {
@@ -73,6 +79,20 @@ fn proofs_are_answered_at_their_first_row_with_its_first_reason(
         ("p cnf 1 1\n0\n", "2 0 1 0\n", "refuted"),
         (PIGEONS, PIGEONS_PROOF, "refuted"),
         (PIGEONS, "23 0 1 2 3 0\n", "refused 1 L4"),
+        (GREAT, "3 0 1 2 0\n", "refuted"),
+        (GREAT, "3 7 -999999999 0 1 2 0\n4 0 1 2 0\n", "refuted"),
+        (GREAT, "3 1000000001 0 1 2 0\n", "refused 1 L1"),
+        (GREAT, "3 7 0 1 2 0\n4 7 -7 0 1 2 0\n", "refused 2 L1"),
+        (GREAT, "3 -7 0 1 0\n", "refused 1 L5"),
+        (GREAT, "3 1000000000 0 2 0\n", "refused 1 L4"),
+        (GREAT, "3 7 0 1 2 0\n", "refused 1 L7"),
+        (DECLARED, "3 0 1 2 0\n", "refuted"),
+        (DECLARED, "3 1000000001 5 0 1 2 0\n", "refused 1 L1"),
+        (
+            DECLARED,
+            "3 1000000000 0 1 2 0\n3 0 1 2 0\n",
+            "refused 2 L2",
+        ),
     ];
     for (file, proof, expected) in table {
         let found = answer(rt.alloc(), file, proof)?;

@@ -4,6 +4,10 @@
 #![tactic(auto)]
 
 #[cfg(test)]
+mod list_tests;
+#[cfg(test)]
+mod outcome_tests;
+#[cfg(test)]
 mod shape_tests;
 #[cfg(test)]
 mod simplify_tests;

@@ -6,6 +6,7 @@ ghost use Rattle.hk_term.specs.Shape.{IsWidth, width};
 use hk_simplify::*;
 use hk_term::{Node, TermId, TermKind, Terms, UnaryKind};
 use std::alloc::{AllocError, Global};
+use std::process::Abort;
 
 /// The greatest number of a width.
 pub(crate) fn greatest(w: u32) -> u64
@@ -570,10 +571,24 @@ fn folded(alloc: Global, kind: TermKind, w: u32, a: u64, b: u64) -> Result<Optio
     requires second { b < 2 ^ w }
 {
     let mut t = Terms::new(alloc);
-    let x = constant(&mut t, w, a)?;
-    let y = constant(&mut t, w, b)?;
-    let made = build(&mut t, kind, x, y)?;
-    Ok(value_of(&t, made))
+    folded_in(&mut t, kind, w, a, b)
+}
+
+fn folded_in(
+    t: &mut Terms,
+    kind: TermKind,
+    w: u32,
+    a: u64,
+    b: u64,
+) -> Result<Option<u64>, AllocError>
+    requires width { IsWidth w }
+    requires first { a < 2 ^ w }
+    requires second { b < 2 ^ w }
+{
+    let x = constant(t, w, a)?;
+    let y = constant(t, w, b)?;
+    let made = build(t, kind, x, y)?;
+    Ok(value_of(t, made))
 }
 
 pub(crate) fn value_of(t: &Terms, a: TermId) -> Option<u64>
@@ -585,18 +600,36 @@ pub(crate) fn value_of(t: &Terms, a: TermId) -> Option<u64>
     }
 }
 
+// The place of the first operation on two numbers that has another answer.
+fn first_wrong(
+    alloc: Global,
+    w: u32,
+    a: u64,
+    b: u64,
+    answers: &[u64; 16],
+) -> Result<Option<usize>, AllocError>
+    requires width { IsWidth w }
+    requires first { a < 2 ^ w }
+    requires second { b < 2 ^ w }
+{
+    for i in 0..16 {
+        if folded(alloc, KINDS[i], w, a, b)? != Some(answers[i]) {
+            return Ok(Some(i));
+        }
+    }
+    Ok(None)
+}
+
 #[test]
 fn constants_are_folded(rt: HostRuntime) -> Result<(), AllocError> {
-    for (w, a, b, answers) in FOLDED {
-        assert!(rt; is_number(w, a));
-        assert!(rt; is_number(w, b));
-        for i in 0..16 {
-            assert_eq!(rt;
-                folded(rt.alloc(), KINDS[i], w, a, b)?,
-                Some(answers[i]),
-                "{w} {a} {b} {i}"
-            );
-        }
+    for (w, a, b, answers) in &FOLDED {
+        assert!(rt; is_number(*w, *a));
+        assert!(rt; is_number(*w, *b));
+        assert_eq!(rt;
+            first_wrong(rt.alloc(), *w, *a, *b, answers)?,
+            None,
+            "{w} {a} {b}"
+        );
     }
     Ok(())
 }
@@ -613,13 +646,32 @@ fn gives(
     requires { IsWidth w }
 {
     let mut t = Terms::new(alloc);
-    let _x = operand_of(&mut t, w, Arg::X)?;
-    let _y = operand_of(&mut t, w, Arg::Y)?;
-    let first = operand_of(&mut t, w, a)?;
-    let second = operand_of(&mut t, w, b)?;
-    let made = build(&mut t, kind, first, second)?;
-    let wanted = wanted(&mut t, w, seen)?;
-    Ok(made == wanted)
+    is_seen(&mut t, w, kind, a, b, seen)
+}
+
+fn is_seen(
+    t: &mut Terms,
+    w: u32,
+    kind: TermKind,
+    a: Arg,
+    b: Arg,
+    seen: Seen,
+) -> Result<bool, AllocError>
+    requires { IsWidth w }
+{
+    let _x = operand_of(t, w, Arg::X)?;
+    let _y = operand_of(t, w, Arg::Y)?;
+    let made = built(t, w, kind, a, b)?;
+    Ok(made == wanted(t, w, seen)?)
+}
+
+// The term of an operation on two terms.
+fn built(t: &mut Terms, w: u32, kind: TermKind, a: Arg, b: Arg) -> Result<TermId, AllocError>
+    requires { IsWidth w }
+{
+    let first = operand_of(t, w, a)?;
+    let second = operand_of(t, w, b)?;
+    build(t, kind, first, second)
 }
 
 pub(crate) fn wanted(t: &mut Terms, w: u32, seen: Seen) -> Result<TermId, AllocError>
@@ -652,120 +704,63 @@ fn plain(t: &mut Terms, kind: TermKind, a: TermId, b: TermId) -> Result<TermId, 
     }
 }
 
-#[test]
-fn sums_are_simplified(rt: HostRuntime) -> Result<(), AllocError> {
-    for (kind, a, b, seen) in SUMS {
+// Asserts that each rule holds at this width.
+fn judge(rt: &impl Abort, alloc: Global, w: u32, rules: &[Rule]) -> Result<(), AllocError>
+    requires { IsWidth w }
+{
+    for &(kind, a, b, seen) in rules {
         assert!(rt;
-            gives(rt.alloc(), 8, kind, a, b, seen)?,
-            "{kind:?} {a:?} {b:?}"
-        );
-        assert!(rt;
-            gives(rt.alloc(), 64, kind, a, b, seen)?,
-            "{kind:?} {a:?} {b:?}"
+            gives(alloc, w, kind, a, b, seen)?,
+            "{w} {kind:?} {a:?} {b:?}"
         );
     }
     Ok(())
+}
+
+// Asserts that each rule holds at a small width and at the greatest one.
+fn judge_both(rt: &impl Abort, alloc: Global, rules: &[Rule]) -> Result<(), AllocError> {
+    judge(rt, alloc, 8, rules)?;
+    judge(rt, alloc, 64, rules)
+}
+
+#[test]
+fn sums_are_simplified(rt: HostRuntime) -> Result<(), AllocError> {
+    judge_both(&rt, rt.alloc(), &SUMS)
 }
 
 #[test]
 fn products_are_simplified(rt: HostRuntime) -> Result<(), AllocError> {
-    for (kind, a, b, seen) in PRODUCTS {
-        assert!(rt;
-            gives(rt.alloc(), 8, kind, a, b, seen)?,
-            "{kind:?} {a:?} {b:?}"
-        );
-        assert!(rt;
-            gives(rt.alloc(), 64, kind, a, b, seen)?,
-            "{kind:?} {a:?} {b:?}"
-        );
-    }
-    Ok(())
+    judge_both(&rt, rt.alloc(), &PRODUCTS)
 }
 
 #[test]
 fn quotients_are_simplified(rt: HostRuntime) -> Result<(), AllocError> {
-    for (kind, a, b, seen) in QUOTIENTS {
-        assert!(rt;
-            gives(rt.alloc(), 8, kind, a, b, seen)?,
-            "{kind:?} {a:?} {b:?}"
-        );
-        assert!(rt;
-            gives(rt.alloc(), 64, kind, a, b, seen)?,
-            "{kind:?} {a:?} {b:?}"
-        );
-    }
-    Ok(())
+    judge_both(&rt, rt.alloc(), &QUOTIENTS)
 }
 
 #[test]
 fn shifts_are_simplified(rt: HostRuntime) -> Result<(), AllocError> {
-    for (kind, a, b, seen) in SHIFTS {
-        assert!(rt;
-            gives(rt.alloc(), 8, kind, a, b, seen)?,
-            "{kind:?} {a:?} {b:?}"
-        );
-        assert!(rt;
-            gives(rt.alloc(), 64, kind, a, b, seen)?,
-            "{kind:?} {a:?} {b:?}"
-        );
-    }
-    Ok(())
+    judge_both(&rt, rt.alloc(), &SHIFTS)
 }
 
 #[test]
 fn meets_and_joins_are_simplified(rt: HostRuntime) -> Result<(), AllocError> {
-    for (kind, a, b, seen) in MEETS {
-        assert!(rt;
-            gives(rt.alloc(), 8, kind, a, b, seen)?,
-            "{kind:?} {a:?} {b:?}"
-        );
-        assert!(rt;
-            gives(rt.alloc(), 64, kind, a, b, seen)?,
-            "{kind:?} {a:?} {b:?}"
-        );
-    }
-    Ok(())
+    judge_both(&rt, rt.alloc(), &MEETS)
 }
 
 #[test]
 fn differences_of_bits_are_simplified(rt: HostRuntime) -> Result<(), AllocError> {
-    for (kind, a, b, seen) in DIFFERENCES {
-        assert!(rt;
-            gives(rt.alloc(), 8, kind, a, b, seen)?,
-            "{kind:?} {a:?} {b:?}"
-        );
-        assert!(rt;
-            gives(rt.alloc(), 64, kind, a, b, seen)?,
-            "{kind:?} {a:?} {b:?}"
-        );
-    }
-    Ok(())
+    judge_both(&rt, rt.alloc(), &DIFFERENCES)
 }
 
 #[test]
 fn comparisons_are_simplified(rt: HostRuntime) -> Result<(), AllocError> {
-    for (kind, a, b, seen) in ORDERS {
-        assert!(rt;
-            gives(rt.alloc(), 8, kind, a, b, seen)?,
-            "{kind:?} {a:?} {b:?}"
-        );
-        assert!(rt;
-            gives(rt.alloc(), 64, kind, a, b, seen)?,
-            "{kind:?} {a:?} {b:?}"
-        );
-    }
-    Ok(())
+    judge_both(&rt, rt.alloc(), &ORDERS)
 }
 
 #[test]
 fn operations_on_truth_values_are_simplified(rt: HostRuntime) -> Result<(), AllocError> {
-    for (kind, a, b, seen) in TRUTHS {
-        assert!(rt;
-            gives(rt.alloc(), 1, kind, a, b, seen)?,
-            "{kind:?} {a:?} {b:?}"
-        );
-    }
-    Ok(())
+    judge(&rt, rt.alloc(), 1, &TRUTHS)
 }
 
 fn truth_of(t: &mut Terms, holds: bool) -> Result<TermId, AllocError>

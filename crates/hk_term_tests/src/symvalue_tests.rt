@@ -3,9 +3,11 @@
 
 ghost use Rattle.std.specs.Prelude.{◌≡◌, ℕ, ◌<◌, ◌≤◌, length, IfOk};
 ghost use Rattle.hk_term.specs.Shape.{IsWidth, width};
-ghost use Rattle.hk_symvalue.specs.Meaning.{IsSym, IsTruth};
+ghost use Rattle.hk_symvalue.specs.Meaning.{IsMade, IsSym, IsTruth};
 
-use hk_symvalue::{SymValue, binary, compare_pointers, is_between, of_term, of_value, pair, step};
+use hk_symvalue::{
+    SymMade, SymValue, binary, compare_pointers, is_between, of_term, of_value, pair, step,
+};
 use hk_term::{Node, TermId, Terms, Valuation, ValueRoom};
 use ir_ast::{BinaryKind, Flags, Predicate};
 use ir_value::{PairKind, Value};
@@ -61,8 +63,22 @@ fn number(alloc: Global, t: &Terms, v: &Valuation, a: TermId) -> Result<u64, All
     Ok(t.value_with(v, a, &mut room))
 }
 
-// What a row gives: nothing where it sticks.
+// What a row gives at the numbers of the variables 1 and 2: nothing where it sticks.
 fn given(
+    alloc: Global,
+    t: &Terms,
+    x: u64,
+    y: u64,
+    made: SymMade,
+) -> Result<Option<Value>, AllocError>
+    requires { IsMade t.now made }
+{
+    let v = valuation(alloc, x, y)?;
+    given_under(alloc, t, &v, made.stuck, made.value)
+}
+
+// The same under a valuation.
+fn given_under(
     alloc: Global,
     t: &Terms,
     v: &Valuation,
@@ -81,6 +97,14 @@ fn given(
     }
 }
 
+// What a value is at the numbers of the variables 1 and 2.
+fn read_at(alloc: Global, t: &Terms, x: u64, y: u64, value: SymValue) -> Result<Value, AllocError>
+    requires { IsSym t.now value }
+{
+    let v = valuation(alloc, x, y)?;
+    read_any(alloc, t, &v, value)
+}
+
 fn read(alloc: Global, t: &Terms, v: &Valuation, value: SymValue) -> Result<Value, AllocError>
     requires { IsSym t.now value }
 {
@@ -93,6 +117,16 @@ fn read(alloc: Global, t: &Terms, v: &Valuation, value: SymValue) -> Result<Valu
     }
 }
 
+// An operation on the variables 1 and 2.
+fn operation_of(t: &mut Terms, kind: BinaryKind, flags: Flags) -> Result<SymMade, AllocError>
+    ensures { IfOk result (λ r. IsMade t.new r) }
+{
+    let a = variable(t, 8, 1)?;
+    let b = variable(t, 8, 2)?;
+    let made = binary(t, flags, kind, 8, a, b)?;
+    Ok(made)
+}
+
 fn operation(
     alloc: Global,
     kind: BinaryKind,
@@ -101,101 +135,144 @@ fn operation(
     y: u64,
 ) -> Result<Option<Value>, AllocError> {
     let mut t = Terms::new(alloc);
-    let a = variable(&mut t, 8, 1)?;
-    let b = variable(&mut t, 8, 2)?;
-    let made = binary(&mut t, flags, kind, 8, a, b)?;
-    let v = valuation(alloc, x, y)?;
-    given(alloc, &t, &v, made.stuck, made.value)
+    let made = operation_of(&mut t, kind, flags)?;
+    given(alloc, &t, x, y, made)
 }
+
+// An operation, its flags, two numbers, and what it gives: nothing where it sticks.
+const OPERATIONS: [(BinaryKind, Flags, u64, u64, Option<Value>); 20] = [
+    (BinaryKind::Add, NONE, 200, 100, Some(Value::Number(44))),
+    (BinaryKind::Add, NUW, 200, 100, Some(Value::Poison)),
+    (BinaryKind::Add, NSW, 100, 28, Some(Value::Poison)),
+    (BinaryKind::Add, NSW, 100, 27, Some(Value::Number(127))),
+    (BinaryKind::Sub, NSW, 128, 1, Some(Value::Poison)),
+    (BinaryKind::Sub, NUW, 1, 2, Some(Value::Poison)),
+    (BinaryKind::Mul, NSW, 16, 8, Some(Value::Poison)),
+    (BinaryKind::Mul, NSW, 240, 8, Some(Value::Number(128))),
+    (BinaryKind::Mul, NUW, 16, 16, Some(Value::Poison)),
+    (BinaryKind::Shl, NONE, 1, 8, Some(Value::Poison)),
+    (BinaryKind::Shl, NSW, 64, 1, Some(Value::Poison)),
+    (BinaryKind::Lshr, EXACT, 3, 1, Some(Value::Poison)),
+    (BinaryKind::Ashr, NONE, 128, 7, Some(Value::Number(255))),
+    (BinaryKind::Udiv, NONE, 7, 0, None),
+    (BinaryKind::Udiv, EXACT, 7, 2, Some(Value::Poison)),
+    (BinaryKind::Sdiv, NONE, 128, 255, None),
+    (BinaryKind::Sdiv, NONE, 249, 2, Some(Value::Number(253))),
+    (BinaryKind::Srem, NONE, 249, 2, Some(Value::Number(255))),
+    (BinaryKind::Or, DISJOINT, 3, 1, Some(Value::Poison)),
+    (BinaryKind::Xor, NONE, 3, 1, Some(Value::Number(2))),
+];
 
 #[test]
 fn operations_of_8_bits(rt: HostRuntime) -> Result<(), AllocError> {
-    let rows = [
-        (BinaryKind::Add, NONE, 200, 100, Some(Value::Number(44))),
-        (BinaryKind::Add, NUW, 200, 100, Some(Value::Poison)),
-        (BinaryKind::Add, NSW, 100, 28, Some(Value::Poison)),
-        (BinaryKind::Add, NSW, 100, 27, Some(Value::Number(127))),
-        (BinaryKind::Sub, NSW, 128, 1, Some(Value::Poison)),
-        (BinaryKind::Sub, NUW, 1, 2, Some(Value::Poison)),
-        (BinaryKind::Mul, NSW, 16, 8, Some(Value::Poison)),
-        (BinaryKind::Mul, NSW, 240, 8, Some(Value::Number(128))),
-        (BinaryKind::Mul, NUW, 16, 16, Some(Value::Poison)),
-        (BinaryKind::Shl, NONE, 1, 8, Some(Value::Poison)),
-        (BinaryKind::Shl, NSW, 64, 1, Some(Value::Poison)),
-        (BinaryKind::Lshr, EXACT, 3, 1, Some(Value::Poison)),
-        (BinaryKind::Ashr, NONE, 128, 7, Some(Value::Number(255))),
-        (BinaryKind::Udiv, NONE, 7, 0, None),
-        (BinaryKind::Udiv, EXACT, 7, 2, Some(Value::Poison)),
-        (BinaryKind::Sdiv, NONE, 128, 255, None),
-        (BinaryKind::Sdiv, NONE, 249, 2, Some(Value::Number(253))),
-        (BinaryKind::Srem, NONE, 249, 2, Some(Value::Number(255))),
-        (BinaryKind::Or, DISJOINT, 3, 1, Some(Value::Poison)),
-        (BinaryKind::Xor, NONE, 3, 1, Some(Value::Number(2))),
-    ];
-    for (kind, flags, x, y, answer) in rows {
+    for &(kind, flags, x, y, answer) in &OPERATIONS {
         assert!(rt; operation(rt.alloc(), kind, flags, x, y)? == answer);
     }
     Ok(())
 }
 
+// A pair of the variables 1 and 2.
+fn paired(t: &mut Terms, kind: PairKind) -> Result<SymValue, AllocError>
+    ensures { IfOk result (λ r. IsSym t.new r) }
+{
+    let a = variable(t, 8, 1)?;
+    let b = variable(t, 8, 2)?;
+    let made = pair(t, kind, 8, a, b)?;
+    Ok(made)
+}
+
 fn pair_of(alloc: Global, kind: PairKind, x: u64, y: u64) -> Result<Value, AllocError> {
     let mut t = Terms::new(alloc);
-    let a = variable(&mut t, 8, 1)?;
-    let b = variable(&mut t, 8, 2)?;
-    let made = pair(&mut t, kind, 8, a, b)?;
-    let v = valuation(alloc, x, y)?;
-    read(alloc, &t, &v, made)
+    let made = paired(&mut t, kind)?;
+    read_at(alloc, &t, x, y, made)
 }
+
+// An operation, two numbers, and what it gives.
+const PAIRS: [(PairKind, u64, u64, Value); 10] = [
+    (PairKind::Umin, 200, 100, Value::Number(100)),
+    (PairKind::Umax, 200, 100, Value::Number(200)),
+    (PairKind::Smin, 200, 100, Value::Number(200)),
+    (PairKind::Smax, 200, 100, Value::Number(100)),
+    (PairKind::Abs, 251, 0, Value::Number(5)),
+    (PairKind::Abs, 251, 1, Value::Number(5)),
+    (PairKind::Abs, 5, 1, Value::Number(5)),
+    (PairKind::Abs, 128, 0, Value::Number(128)),
+    (PairKind::Abs, 128, 1, Value::Poison),
+    (PairKind::Expect, 7, 9, Value::Number(7)),
+];
 
 #[test]
 fn pairs_of_8_bits(rt: HostRuntime) -> Result<(), AllocError> {
-    let rows = [
-        (PairKind::Umin, 200, 100, Value::Number(100)),
-        (PairKind::Umax, 200, 100, Value::Number(200)),
-        (PairKind::Smin, 200, 100, Value::Number(200)),
-        (PairKind::Smax, 200, 100, Value::Number(100)),
-        (PairKind::Abs, 251, 0, Value::Number(5)),
-        (PairKind::Abs, 251, 1, Value::Number(5)),
-        (PairKind::Abs, 5, 1, Value::Number(5)),
-        (PairKind::Abs, 128, 0, Value::Number(128)),
-        (PairKind::Abs, 128, 1, Value::Poison),
-        (PairKind::Expect, 7, 9, Value::Number(7)),
-    ];
-    for (kind, x, y, answer) in rows {
+    for &(kind, x, y, answer) in &PAIRS {
         assert!(rt; pair_of(rt.alloc(), kind, x, y)? == answer);
     }
     Ok(())
 }
 
+// Whether the variable 1 of 16 bits lies in a range of 8 bits.
+fn lies_in(t: &mut Terms, low: u64, high: u64) -> Result<TermId, AllocError>
+    ensures { IfOk result (λ r. r < length t.new) }
+{
+    let n = variable(t, 16, 1)?;
+    let between = is_between(t, 8, low, high, n.bits)?;
+    Ok(between)
+}
+
 // Whether a number of 16 bits lies in a range of 8 bits.
 fn lies(alloc: Global, low: u64, high: u64, x: u64) -> Result<bool, AllocError> {
     let mut t = Terms::new(alloc);
-    let n = variable(&mut t, 16, 1)?;
-    let between = is_between(&mut t, 8, low, high, n.bits)?;
-    let v = valuation(alloc, x, 0)?;
-    Ok(number(alloc, &t, &v, between)? == 1)
+    let between = lies_in(&mut t, low, high)?;
+    is_true(alloc, &t, x, between)
 }
+
+// Whether a truth value is true at a number of the variable 1.
+fn is_true(alloc: Global, t: &Terms, x: u64, a: TermId) -> Result<bool, AllocError>
+    requires { a < length t.now }
+{
+    let v = valuation(alloc, x, 0)?;
+    let truth = number(alloc, t, &v, a)?;
+    Ok(truth == 1)
+}
+
+// The ends of a range, a number, and whether it lies in it.
+const RANGES: [(u64, u64, u64, bool); 12] = [
+    (10, 20, 9, false),
+    (10, 20, 10, true),
+    (10, 20, 19, true),
+    (10, 20, 20, false),
+    (250, 5, 249, false),
+    (250, 5, 255, true),
+    (250, 5, 4, true),
+    (250, 5, 5, false),
+    (250, 5, 256, false),
+    (7, 7, 7, false),
+    (0, 256, 3, false),
+    (256, 5, 3, false),
+];
 
 #[test]
 fn ranges_of_8_bits(rt: HostRuntime) -> Result<(), AllocError> {
-    let rows = [
-        (10, 20, 9, false),
-        (10, 20, 10, true),
-        (10, 20, 19, true),
-        (10, 20, 20, false),
-        (250, 5, 249, false),
-        (250, 5, 255, true),
-        (250, 5, 4, true),
-        (250, 5, 5, false),
-        (250, 5, 256, false),
-        (7, 7, 7, false),
-        (0, 256, 3, false),
-        (256, 5, 3, false),
-    ];
-    for (low, high, x, answer) in rows {
+    for &(low, high, x, answer) in &RANGES {
         assert!(rt; lies(rt.alloc(), low, high, x)? == answer);
     }
     Ok(())
+}
+
+// A comparison of pointers to objects whose sizes are the variables 1 and 2.
+fn comparison(
+    t: &mut Terms,
+    predicate: Predicate,
+    x: Value,
+    y: Value,
+) -> Result<SymMade, AllocError>
+    ensures { IfOk result (λ r. IsMade t.new r) }
+{
+    let size_a = t.intern(Node::Var { width: 64, id: 1 })?;
+    let size_b = t.intern(Node::Var { width: 64, id: 2 })?;
+    let a = of_value(t, x)?;
+    let b = of_value(t, y)?;
+    let made = compare_pointers(t, predicate, size_a, size_b, a, b)?;
+    Ok(made)
 }
 
 // Objects of 16 and 8 bytes. Nothing where the comparison sticks.
@@ -206,52 +283,73 @@ fn compared(
     y: Value,
 ) -> Result<Option<Value>, AllocError> {
     let mut t = Terms::new(alloc);
-    let size_a = t.intern(Node::Var { width: 64, id: 1 })?;
-    let size_b = t.intern(Node::Var { width: 64, id: 2 })?;
-    let a = of_value(&mut t, x)?;
-    let b = of_value(&mut t, y)?;
-    let made = compare_pointers(&mut t, predicate, size_a, size_b, a, b)?;
-    let v = valuation(alloc, 16, 8)?;
-    given(alloc, &t, &v, made.stuck, made.value)
+    let made = comparison(&mut t, predicate, x, y)?;
+    given(alloc, &t, 16, 8, made)
 }
 
-fn at(object: u32, offset: u64) -> Value {
-    Value::Address { object, offset }
+// An address in an object.
+macro_rules! at {
+    ($object:expr, $offset:expr) => {
+        Value::Address {
+            object: $object,
+            offset: $offset,
+        }
+    };
 }
+
+const YES: Option<Value> = Some(Value::Number(1));
+
+const NO: Option<Value> = Some(Value::Number(0));
+
+// A predicate, two pointers, and whether it holds of them: nothing where it sticks.
+const COMPARISONS: [(Predicate, Value, Value, Option<Value>); 18] = [
+    (Predicate::Eq, Value::Null, Value::Null, YES),
+    (Predicate::Ne, Value::Null, Value::Null, NO),
+    (Predicate::Ult, Value::Null, Value::Null, None),
+    (Predicate::Eq, Value::Null, at!(1, 8), NO),
+    (Predicate::Ne, Value::Null, at!(1, 8), YES),
+    (Predicate::Eq, Value::Null, at!(1, 9), None),
+    (Predicate::Eq, at!(0, 16), Value::Null, NO),
+    (Predicate::Eq, at!(0, 17), Value::Null, None),
+    (Predicate::Ule, at!(0, 0), Value::Null, None),
+    (Predicate::Eq, at!(0, 4), at!(0, 4), YES),
+    (Predicate::Ne, at!(0, 40), at!(0, 4), YES),
+    (Predicate::Eq, at!(0, 4), at!(1, 4), None),
+    (Predicate::Ult, at!(0, 4), at!(0, 16), YES),
+    (Predicate::Uge, at!(0, 4), at!(0, 16), NO),
+    (Predicate::Ult, at!(0, 4), at!(0, 17), None),
+    (Predicate::Ult, at!(0, 4), at!(1, 8), None),
+    (
+        Predicate::Eq,
+        Value::Poison,
+        at!(1, 40),
+        Some(Value::Poison),
+    ),
+    (
+        Predicate::Slt,
+        Value::Null,
+        Value::Poison,
+        Some(Value::Poison),
+    ),
+];
 
 #[test]
 fn comparisons_of_pointers(rt: HostRuntime) -> Result<(), AllocError> {
-    let yes = Some(Value::Number(1));
-    let no = Some(Value::Number(0));
-    let rows = [
-        (Predicate::Eq, Value::Null, Value::Null, yes),
-        (Predicate::Ne, Value::Null, Value::Null, no),
-        (Predicate::Ult, Value::Null, Value::Null, None),
-        (Predicate::Eq, Value::Null, at(1, 8), no),
-        (Predicate::Ne, Value::Null, at(1, 8), yes),
-        (Predicate::Eq, Value::Null, at(1, 9), None),
-        (Predicate::Eq, at(0, 16), Value::Null, no),
-        (Predicate::Eq, at(0, 17), Value::Null, None),
-        (Predicate::Ule, at(0, 0), Value::Null, None),
-        (Predicate::Eq, at(0, 4), at(0, 4), yes),
-        (Predicate::Ne, at(0, 40), at(0, 4), yes),
-        (Predicate::Eq, at(0, 4), at(1, 4), None),
-        (Predicate::Ult, at(0, 4), at(0, 16), yes),
-        (Predicate::Uge, at(0, 4), at(0, 16), no),
-        (Predicate::Ult, at(0, 4), at(0, 17), None),
-        (Predicate::Ult, at(0, 4), at(1, 8), None),
-        (Predicate::Eq, Value::Poison, at(1, 40), Some(Value::Poison)),
-        (
-            Predicate::Slt,
-            Value::Null,
-            Value::Poison,
-            Some(Value::Poison),
-        ),
-    ];
-    for (predicate, x, y, answer) in rows {
+    for &(predicate, x, y, answer) in &COMPARISONS {
         assert!(rt; compared(rt.alloc(), predicate, x, y)? == answer);
     }
     Ok(())
+}
+
+// A step by the variable 1 of 8 bits, in an object whose size is the variable 2.
+fn step_of(t: &mut Terms, inbounds: bool, each: u64, from: Value) -> Result<SymValue, AllocError>
+    ensures { IfOk result (λ r. IsSym t.new r) }
+{
+    let size = t.intern(Node::Var { width: 64, id: 2 })?;
+    let i = variable(t, 8, 1)?;
+    let a = of_value(t, from)?;
+    let made = step(t, inbounds, size, 8, each, i, a)?;
+    Ok(made)
 }
 
 // The address that an index of 8 bits steps to, in an object of 16 bytes.
@@ -263,12 +361,8 @@ fn stepped(
     from: Value,
 ) -> Result<Value, AllocError> {
     let mut t = Terms::new(alloc);
-    let size = t.intern(Node::Var { width: 64, id: 2 })?;
-    let i = variable(&mut t, 8, 1)?;
-    let a = of_value(&mut t, from)?;
-    let made = step(&mut t, inbounds, size, 8, each, i, a)?;
-    let v = valuation(alloc, index, 16)?;
-    read_any(alloc, &t, &v, made)
+    let made = step_of(&mut t, inbounds, each, from)?;
+    read_at(alloc, &t, index, 16, made)
 }
 
 fn read_any(alloc: Global, t: &Terms, v: &Valuation, value: SymValue) -> Result<Value, AllocError>
@@ -284,31 +378,32 @@ fn read_any(alloc: Global, t: &Terms, v: &Valuation, value: SymValue) -> Result<
     } else if base == 1 {
         Ok(Value::Null)
     } else {
-        Ok(at(((base - 2) % 4_294_967_296) as u32, bits))
+        Ok(at!(((base - 2) % 4_294_967_296) as u32, bits))
     }
 }
 
+// Whether a step stays in bounds, the size of an element, an index, an address, and the one that it steps to.
+const STEPS: [(bool, u64, u64, Value, Value); 15] = [
+    (true, 4, 3, at!(0, 4), at!(0, 16)),
+    (true, 4, 4, at!(0, 4), Value::Poison),
+    (true, 4, 255, at!(0, 4), at!(0, 0)),
+    (true, 4, 254, at!(0, 4), Value::Poison),
+    (true, 1 << 63, 2, at!(0, 4), Value::Poison),
+    (false, 1 << 63, 2, at!(0, 4), at!(0, 4)),
+    (false, 4, 254, at!(0, 4), at!(0, u64::MAX - 3)),
+    (false, 4, 128, at!(0, 4), at!(0, u64::MAX - 507)),
+    (true, 0, 128, at!(0, 4), at!(0, 4)),
+    (true, 4, 0, Value::Null, Value::Null),
+    (true, 4, 1, Value::Null, Value::Poison),
+    (false, 1 << 63, 2, Value::Null, Value::Null),
+    (true, 1 << 63, 2, Value::Null, Value::Poison),
+    (false, 4, 0, Value::Number(4), Value::Poison),
+    (false, 4, 0, Value::Poison, Value::Poison),
+];
+
 #[test]
 fn steps_of_8_bits(rt: HostRuntime) -> Result<(), AllocError> {
-    let last = u64::MAX;
-    let rows = [
-        (true, 4, 3, at(0, 4), at(0, 16)),
-        (true, 4, 4, at(0, 4), Value::Poison),
-        (true, 4, 255, at(0, 4), at(0, 0)),
-        (true, 4, 254, at(0, 4), Value::Poison),
-        (true, 1 << 63, 2, at(0, 4), Value::Poison),
-        (false, 1 << 63, 2, at(0, 4), at(0, 4)),
-        (false, 4, 254, at(0, 4), at(0, last - 3)),
-        (false, 4, 128, at(0, 4), at(0, last - 507)),
-        (true, 0, 128, at(0, 4), at(0, 4)),
-        (true, 4, 0, Value::Null, Value::Null),
-        (true, 4, 1, Value::Null, Value::Poison),
-        (false, 1 << 63, 2, Value::Null, Value::Null),
-        (true, 1 << 63, 2, Value::Null, Value::Poison),
-        (false, 4, 0, Value::Number(4), Value::Poison),
-        (false, 4, 0, Value::Poison, Value::Poison),
-    ];
-    for (inbounds, each, index, from, answer) in rows {
+    for &(inbounds, each, index, from, answer) in &STEPS {
         assert!(rt; stepped(rt.alloc(), inbounds, each, index, from)? == answer);
     }
     Ok(())

@@ -1,14 +1,10 @@
-//! Values of terms at the edges of the widths 1, 8 and 64, with answers of Z3, and what the list keeps.
+//! Values of terms at the edges of the widths 1, 8 and 64, with answers of Z3.
 
-ghost use Rattle.std.specs.Prelude.{◌≡◌, ◌^◌, ◌<◌, length, IfOk};
+ghost use Rattle.std.specs.Prelude.{◌≡◌, ◌^◌, ◌<◌, ◌≤◌, length, IfOk};
 ghost use Rattle.hk_term.specs.Operations.{BinaryFits, ResizeFits};
 ghost use Rattle.hk_term.specs.Shape.{IsWidth, width};
-ghost use Rattle.hk_term.specs.Meaning.{reading_of};
-ghost use Rattle.hk_term.specs.Room.{IsFor};
 
-use hk_term::{
-    Bound, BoundList, Node, TermId, TermKind, TermResize, Terms, UnaryKind, Valuation, ValueRoom,
-};
+use hk_term::{Bound, BoundList, Node, TermId, TermKind, TermResize, Terms, UnaryKind, Valuation};
 use std::alloc::{AllocError, Global};
 use std::test::Fail;
 
@@ -329,7 +325,12 @@ const CONCATENATIONS: [(u32, u32, u64, u64, u64); 5] = [
 ];
 
 // The value of a term under a valuation.
-fn value(alloc: Global, terms: &Terms, v: &Valuation, t: TermId) -> Result<u64, AllocError>
+pub(crate) fn value(
+    alloc: Global,
+    terms: &Terms,
+    v: &Valuation,
+    t: TermId,
+) -> Result<u64, AllocError>
     requires { t < length terms.now }
 {
     let len = terms.len() as usize;
@@ -338,11 +339,19 @@ fn value(alloc: Global, terms: &Terms, v: &Valuation, t: TermId) -> Result<u64, 
 }
 
 // A valuation of the first two variables.
-fn two_variables(alloc: Global, a: u64, b: u64) -> Result<Valuation, AllocError> {
+pub(crate) fn two_variables(alloc: Global, a: u64, b: u64) -> Result<Valuation, AllocError> {
     let mut v = Valuation::new(alloc);
     v.vars.set(0, a)?;
     v.vars.set(1, b)?;
     Ok(v)
+}
+
+// The value of a term where the variables 0 and 1 are these numbers.
+fn value_at(alloc: Global, terms: &Terms, t: TermId, a: u64, b: u64) -> Result<u64, AllocError>
+    requires { t < length terms.now }
+{
+    let v = two_variables(alloc, a, b)?;
+    value(alloc, terms, &v, t)
 }
 
 // An operation on two variables.
@@ -351,23 +360,39 @@ fn binary(alloc: Global, kind: TermKind, w: u32, u: u32, a: u64, b: u64) -> Resu
     requires second { IsWidth u }
     requires fits { BinaryFits kind w u }
 {
-    let v = two_variables(alloc, a, b)?;
     let mut terms = Terms::new(alloc);
+    let t = binary_of(&mut terms, kind, w, u)?;
+    value_at(alloc, &terms, t, a, b)
+}
+
+fn binary_of(terms: &mut Terms, kind: TermKind, w: u32, u: u32) -> Result<TermId, AllocError>
+    requires first { IsWidth w }
+    requires second { IsWidth u }
+    requires fits { BinaryFits kind w u }
+    ensures { IfOk result (λ t. t < length terms.new) }
+{
     let a = terms.intern(Node::Var { width: w, id: 0 })?;
     let b = terms.intern(Node::Var { width: u, id: 1 })?;
     let t = terms.intern(Node::Binary { kind, a, b })?;
-    value(alloc, &terms, &v, t)
+    Ok(t)
 }
 
 // An operation on one variable.
 fn unary(alloc: Global, kind: UnaryKind, w: u32, a: u64) -> Result<u64, AllocError>
     requires { IsWidth w }
 {
-    let v = two_variables(alloc, a, 0)?;
     let mut terms = Terms::new(alloc);
+    let t = unary_of(&mut terms, kind, w)?;
+    value_at(alloc, &terms, t, a, 0)
+}
+
+fn unary_of(terms: &mut Terms, kind: UnaryKind, w: u32) -> Result<TermId, AllocError>
+    requires { IsWidth w }
+    ensures { IfOk result (λ t. t < length terms.new) }
+{
     let a = terms.intern(Node::Var { width: w, id: 0 })?;
     let t = terms.intern(Node::Unary { kind, a })?;
-    value(alloc, &terms, &v, t)
+    Ok(t)
 }
 
 // A variable at another width.
@@ -375,11 +400,19 @@ fn resize(alloc: Global, kind: TermResize, w: u32, to: u32, a: u64) -> Result<u6
     requires width { IsWidth w }
     requires fits { ResizeFits kind w to }
 {
-    let v = two_variables(alloc, a, 0)?;
     let mut terms = Terms::new(alloc);
+    let t = resize_of(&mut terms, kind, w, to)?;
+    value_at(alloc, &terms, t, a, 0)
+}
+
+fn resize_of(terms: &mut Terms, kind: TermResize, w: u32, to: u32) -> Result<TermId, AllocError>
+    requires width { IsWidth w }
+    requires fits { ResizeFits kind w to }
+    ensures { IfOk result (λ t. t < length terms.new) }
+{
     let a = terms.intern(Node::Var { width: w, id: 0 })?;
     let t = terms.intern(Node::Resize { kind, to, a })?;
-    value(alloc, &terms, &v, t)
+    Ok(t)
 }
 
 // The operations on two numbers of one width, in the order of the rows.
@@ -412,48 +445,90 @@ fn level(alloc: Global, kind: TermKind, w: u32, a: u64, b: u64) -> Result<u64, A
     }
 }
 
-#[test]
-fn operations_have_the_values_of_smt_lib(rt: HostRuntime) -> Result<(), Fail> {
-    for (w, a, b, values) in ROWS {
-        assert!(rt; 1 <= w && w <= 64);
-        for (kind, expected) in KINDS.into_iter().zip(values) {
-            let found = level(rt.alloc(), kind, w, a, b)?;
-            assert_eq!(rt; found, expected, "{kind:?} {w} {a} {b}");
+// The place of the first operation on two numbers that has another value.
+fn first_wrong(
+    alloc: Global,
+    w: u32,
+    a: u64,
+    b: u64,
+    values: &[u64; 16],
+) -> Result<Option<usize>, AllocError>
+    requires { IsWidth w }
+{
+    for i in 0..16 {
+        if level(alloc, KINDS[i], w, a, b)? != values[i] {
+            return Ok(Some(i));
         }
     }
+    Ok(None)
+}
+
+#[test]
+fn operations_have_the_values_of_smt_lib(rt: HostRuntime) -> Result<(), Fail> {
+    for (w, a, b, values) in &ROWS {
+        assert!(rt; 1 <= *w && *w <= 64);
+        assert_eq!(rt;
+            first_wrong(rt.alloc(), *w, *a, *b, values)?,
+            None,
+            "{w} {a} {b}"
+        );
+    }
     Ok(())
+}
+
+// The complement of a number and its two's complement.
+fn turned(alloc: Global, w: u32, a: u64) -> Result<[u64; 2], AllocError>
+    requires { IsWidth w }
+{
+    let not = unary(alloc, UnaryKind::Not, w, a)?;
+    let neg = unary(alloc, UnaryKind::Neg, w, a)?;
+    Ok([not, neg])
 }
 
 #[test]
 fn numbers_are_turned(rt: HostRuntime) -> Result<(), Fail> {
-    for (w, a, [not, neg]) in UNARY {
+    for &(w, a, values) in &UNARY {
         assert!(rt; 1 <= w && w <= 64);
-        assert_eq!(rt; unary(rt.alloc(), UnaryKind::Not, w, a)?, not);
-        assert_eq!(rt; unary(rt.alloc(), UnaryKind::Neg, w, a)?, neg);
+        assert_eq!(rt; turned(rt.alloc(), w, a)?, values, "{w} {a}");
     }
     Ok(())
+}
+
+// A number with zeros and with copies of its sign above.
+fn extended(alloc: Global, w: u32, to: u32, a: u64) -> Result<[u64; 2], AllocError>
+    requires width { IsWidth w }
+    requires wider { w ≤ to }
+    requires within { to ≤ 64 }
+{
+    let zero = resize(alloc, TermResize::Zero, w, to, a)?;
+    let sign = resize(alloc, TermResize::Sign, w, to, a)?;
+    Ok([zero, sign])
 }
 
 #[test]
 fn numbers_are_extended(rt: HostRuntime) -> Result<(), Fail> {
-    for (w, to, a, [zero, sign]) in EXTENSIONS {
+    for &(w, to, a, values) in &EXTENSIONS {
         assert!(rt; 1 <= w && w <= to && to <= 64);
-        assert_eq!(rt; resize(rt.alloc(), TermResize::Zero, w, to, a)?, zero);
-        assert_eq!(rt; resize(rt.alloc(), TermResize::Sign, w, to, a)?, sign);
+        assert_eq!(rt; extended(rt.alloc(), w, to, a)?, values, "{w} {to} {a}");
     }
     Ok(())
 }
 
 #[test]
-fn bits_are_cut_out_and_joined(rt: HostRuntime) -> Result<(), Fail> {
-    for (w, low, to, a, bits) in EXTRACTS {
+fn bits_are_cut_out(rt: HostRuntime) -> Result<(), Fail> {
+    for &(w, low, to, a, bits) in &EXTRACTS {
         assert!(rt; w <= 64 && low <= 64 && 1 <= to && to <= 64 && low + to <= w);
         assert_eq!(rt;
             resize(rt.alloc(), TermResize::Extract { low }, w, to, a)?,
             bits
         );
     }
-    for (w, u, a, b, both) in CONCATENATIONS {
+    Ok(())
+}
+
+#[test]
+fn numbers_are_joined(rt: HostRuntime) -> Result<(), Fail> {
+    for &(w, u, a, b, both) in &CONCATENATIONS {
         assert!(rt; 1 <= w && w <= 63 && 1 <= u && u <= 63 && w + u <= 64);
         assert_eq!(rt; binary(rt.alloc(), TermKind::Concat, w, u, a, b)?, both);
     }
@@ -461,7 +536,7 @@ fn bits_are_cut_out_and_joined(rt: HostRuntime) -> Result<(), Fail> {
 }
 
 // The bound variables 0 and 1 with these sizes.
-fn two_bounds(alloc: Global, first: u64, second: u64) -> Result<BoundList, AllocError> {
+pub(crate) fn two_bounds(alloc: Global, first: u64, second: u64) -> Result<BoundList, AllocError> {
     let items = vec![in alloc;
         Bound { id: 0, size: first },
         Bound {
@@ -498,28 +573,35 @@ fn sums_below(terms: &mut Terms, bound: BoundList, limit: u64) -> Result<TermId,
     Ok(t)
 }
 
+// Whether the sum of two variables is below a limit, for all numbers of these variables.
+fn are_below(alloc: Global, first: u64, second: u64, limit: u64) -> Result<u64, AllocError>
+    requires { limit < 2 ^ 8 }
+{
+    let bound = two_bounds(alloc, first, second)?;
+    let mut terms = Terms::new(alloc);
+    let t = sums_below(&mut terms, bound, limit)?;
+    value_at(alloc, &terms, t, 100, 100)
+}
+
+// How many numbers there are of each variable, a limit, and whether each sum is below it.
+const SUMS: [(u64, u64, u64, u64); 10] = [
+    (3, 4, 6, 1),
+    (3, 4, 5, 0),
+    (4, 3, 5, 0),
+    (0, 9, 0, 1),
+    (9, 0, 0, 1),
+    (1, 1, 0, 0),
+    (1, 1, 1, 1),
+    (256, 1, 255, 0),
+    (2, 255, 255, 0),
+    (257, 1, 255, 0),
+];
+
 #[test]
 fn quantifiers_go_over_every_tuple(rt: HostRuntime) -> Result<(), Fail> {
-    let alloc = rt.alloc();
-    let table = [
-        (3, 4, 6, 1),
-        (3, 4, 5, 0),
-        (4, 3, 5, 0),
-        (0, 9, 0, 1),
-        (9, 0, 0, 1),
-        (1, 1, 0, 0),
-        (1, 1, 1, 1),
-        (256, 1, 255, 0),
-        (2, 255, 255, 0),
-        (257, 1, 255, 0),
-    ];
-    for (first, second, limit, expected) in table {
+    for &(first, second, limit, expected) in &SUMS {
         assert!(rt; limit < 256);
-        let mut terms = Terms::new(alloc);
-        let v = two_variables(alloc, 100, 100)?;
-        let bound = two_bounds(alloc, first, second)?;
-        let t = sums_below(&mut terms, bound, limit)?;
-        let found = value(alloc, &terms, &v, t)?;
+        let found = are_below(rt.alloc(), first, second, limit)?;
         assert_eq!(rt; found, expected, "{first} {second} {limit}");
     }
     Ok(())
@@ -556,7 +638,7 @@ fn inside_and_outside(alloc: Global, terms: &mut Terms) -> Result<TermId, AllocE
 
 // For each number of the variable 0 below 3: either for each number of it below 2 the entry of an array at it is that
 // number, or the entry at it is it. The inner variable hides the outer one.
-fn nested(alloc: Global, terms: &mut Terms) -> Result<TermId, AllocError>
+pub(crate) fn nested(alloc: Global, terms: &mut Terms) -> Result<TermId, AllocError>
     ensures { IfOk result (λ t. t < length terms.new) }
 {
     let x = terms.intern(Node::Var { width: 8, id: 0 })?;
@@ -588,165 +670,68 @@ fn nested(alloc: Global, terms: &mut Terms) -> Result<TermId, AllocError>
     Ok(t)
 }
 
+// The value of a term where the array 7 has these entries.
+fn value_over(alloc: Global, terms: &Terms, t: TermId, entries: &[u64]) -> Result<u64, AllocError>
+    requires { t < length terms.now }
+{
+    let mut v = Valuation::new(alloc);
+    for (index, number) in entries.iter().enumerate() {
+        v.arrays.set(7, index as u64, *number)?;
+    }
+    value(alloc, terms, &v, t)
+}
+
+// The number of the variable 0, and the value outside and inside.
+const OUTSIDE: [(u64, u64); 3] = [(9, 1), (3, 0), (256 + 9, 1)];
+
+// The place of the first number of the variable 0 at which a term has another value.
+fn first_other(alloc: Global, terms: &Terms, t: TermId) -> Result<Option<usize>, AllocError>
+    requires { t < length terms.now }
+{
+    for (place, &(x, expected)) in OUTSIDE.iter().enumerate() {
+        if value_at(alloc, terms, t, x, 0)? != expected {
+            return Ok(Some(place));
+        }
+    }
+    Ok(None)
+}
+
 #[test]
 fn bound_variables_hide_those_outside(rt: HostRuntime) -> Result<(), Fail> {
-    let alloc = rt.alloc();
-    let mut terms = Terms::new(alloc);
-    let both = inside_and_outside(alloc, &mut terms)?;
-    for (x, expected) in [(9, 1), (3, 0), (256 + 9, 1)] {
-        let v = two_variables(alloc, x, 0)?;
-        assert_eq!(rt; value(alloc, &terms, &v, both)?, expected);
-    }
-    let mut terms = Terms::new(alloc);
-    let t = nested(alloc, &mut terms)?;
-    for (entries, expected) in [
-        ([0, 1, 2], 1),
-        ([0, 257, 9], 1),
-        ([0, 3, 2], 0),
-        ([5, 1, 2], 0),
-    ] {
-        let mut v = Valuation::new(alloc);
-        for (index, number) in entries.iter().enumerate() {
-            v.arrays.set(7, index as u64, *number)?;
-        }
-        assert_eq!(rt; value(alloc, &terms, &v, t)?, expected);
-    }
-    Ok(())
-}
-
-#[test]
-fn a_node_stands_once(rt: HostRuntime) -> Result<(), Fail> {
     let mut terms = Terms::new(rt.alloc());
-    let seven = terms.intern(Node::Const { width: 8, value: 7 })?;
-    let wider = terms.intern(Node::Const {
-        width: 16,
-        value: 7,
-    })?;
-    let again = terms.intern(Node::Const { width: 8, value: 7 })?;
-    assert!(rt; again == seven && wider != seven);
-    assert_eq!(rt; terms.len(), 2);
+    let both = inside_and_outside(rt.alloc(), &mut terms)?;
+    let found = first_other(rt.alloc(), &terms, both);
+    drop(terms);
+    assert_eq!(rt; found?, None);
     Ok(())
 }
 
-#[test]
-fn a_quantifier_stands_once_for_equal_bounds(rt: HostRuntime) -> Result<(), Fail> {
-    let alloc = rt.alloc();
-    let bound = two_bounds(alloc, 3, 4)?;
-    let copied = bound.copy(alloc)?;
-    let other = two_bounds(alloc, 3, 5)?;
-    let mut terms = Terms::new(alloc);
-    let body = terms.intern(Node::Const { width: 1, value: 1 })?;
-    let first = terms.intern(Node::ForAll { bound, body })?;
-    let second = terms.intern(Node::ForAll {
-        bound: copied,
-        body,
-    })?;
-    let third = terms.intern(Node::ForAll { bound: other, body })?;
-    assert!(rt; first == second && first != third);
-    Ok(())
-}
+// Entries of an array, and whether the nested quantifiers hold of them.
+const NESTED: [([u64; 3], u64); 4] = [
+    ([0, 1, 2], 1),
+    ([0, 257, 9], 1),
+    ([0, 3, 2], 0),
+    ([5, 1, 2], 0),
+];
 
-// Whether the sum of two terms of 8 bits is 3, as a choice of one of them.
-fn choice(terms: &mut Terms, a: TermId, b: TermId) -> Result<TermId, AllocError>
-    requires first { a < length terms.old }
-    requires second { b < length terms.old }
-    requires widths { (width terms.old a ≡ 8) × (width terms.old b ≡ 8) }
-    ensures within { IfOk result (λ t. t < length terms.new) }
+// The place of the first entries of the array at which a term has another value.
+fn first_other_entries(alloc: Global, terms: &Terms, t: TermId) -> Result<Option<usize>, AllocError>
+    requires { t < length terms.now }
 {
-    let sum = terms.intern(Node::Binary {
-        kind: TermKind::Add,
-        a,
-        b,
-    })?;
-    let three = terms.intern(Node::Const { width: 8, value: 3 })?;
-    let condition = terms.intern(Node::Binary {
-        kind: TermKind::Eq,
-        a: sum,
-        b: three,
-    })?;
-    let t = terms.intern(Node::Choose {
-        condition,
-        a: b,
-        b: a,
-    })?;
-    Ok(t)
+    for (place, (entries, expected)) in NESTED.iter().enumerate() {
+        if value_over(alloc, terms, t, entries)? != *expected {
+            return Ok(Some(place));
+        }
+    }
+    Ok(None)
 }
 
 #[test]
-fn a_cut_list_grows_again(rt: HostRuntime) -> Result<(), Fail> {
-    let alloc = rt.alloc();
-    let mut terms = Terms::new(alloc);
-    let one = terms.intern(Node::Const { width: 8, value: 1 })?;
-    let two = terms.intern(Node::Const { width: 8, value: 2 })?;
-    let cut_off = choice(&mut terms, two, two)?;
-    assert!(rt; terms.len() >= 2);
-    terms.cut(2);
-    assert!(rt; *terms.node(TermId::at(1)) == Node::Const { width: 8, value: 2 });
-    assert!(rt; one == TermId::at(0) && two == TermId::at(1));
-    let first = terms.intern(Node::Const { width: 8, value: 1 })?;
-    let second = terms.intern(Node::Const { width: 8, value: 2 })?;
-    assert!(rt; first == one && second == two);
-    let t = choice(&mut terms, first, second)?;
-    assert_eq!(rt; t, cut_off);
-    let v = Valuation::new(alloc);
-    assert_eq!(rt; value(alloc, &terms, &v, t)?, 2);
-    Ok(())
-}
-
-// The values of a term and of one of its parts, by one room.
-fn two_values(
-    terms: &Terms,
-    v: &Valuation,
-    room: &mut ValueRoom,
-    t: TermId,
-    part: TermId,
-) -> [u64; 2]
-    requires first { t < length terms.now }
-    requires second { part < length terms.now }
-    requires room { IsFor terms.now (reading_of v.now) room.old }
-    ensures room { IsFor terms.now (reading_of v.now) room.new }
-{
-    let whole = terms.value_with(v, t, room);
-    [whole, terms.value_with(v, part, room)]
-}
-
-#[test]
-fn a_room_serves_many_terms_and_valuations(rt: HostRuntime) -> Result<(), Fail> {
-    let alloc = rt.alloc();
-    let mut terms = Terms::new(alloc);
-    let x = terms.intern(Node::Var { width: 8, id: 0 })?;
-    let nested = nested(alloc, &mut terms)?;
-    assert!(rt; x.place() < terms.len());
-    let mut room = ValueRoom::new(alloc, &terms)?;
-    let mut v = two_variables(alloc, 200, 0)?;
-    v.arrays.set(7, 1, 1)?;
-    v.arrays.set(7, 2, 2)?;
-    assert_eq!(rt; two_values(&terms, &v, &mut room, nested, x), [1, 200]);
-    let longer = terms.intern(Node::Unary {
-        kind: UnaryKind::Neg,
-        a: x,
-    })?;
-    room.fit(&terms)?;
-    assert_eq!(rt; two_values(&terms, &v, &mut room, longer, x), [56, 200]);
-    let other = two_variables(alloc, 3, 0)?;
-    room.begin();
-    assert_eq!(rt;
-        two_values(&terms, &other, &mut room, nested, longer),
-        [0, 253]
-    );
-    Ok(())
-}
-
-#[test]
-fn a_later_number_takes_the_place_of_an_earlier_one(rt: HostRuntime) -> Result<(), Fail> {
-    let mut v = two_variables(rt.alloc(), 5, 6)?;
-    v.vars.set(0, 8)?;
-    v.arrays.set(1, 2, 3)?;
-    v.arrays.set(1, 2, 4)?;
-    v.arrays.set(2, 1, 5)?;
-    let found = [v.vars.get(0), v.vars.get(1), v.vars.get(2)];
-    assert_eq!(rt; found, [8, 6, 0]);
-    let found = [v.arrays.get(1, 2), v.arrays.get(2, 1), v.arrays.get(2, 2)];
-    assert_eq!(rt; found, [4, 5, 0]);
+fn bound_variables_hide_those_of_other_quantifiers(rt: HostRuntime) -> Result<(), Fail> {
+    let mut terms = Terms::new(rt.alloc());
+    let t = nested(rt.alloc(), &mut terms)?;
+    let found = first_other_entries(rt.alloc(), &terms, t);
+    drop(terms);
+    assert_eq!(rt; found?, None);
     Ok(())
 }

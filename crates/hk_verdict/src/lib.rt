@@ -11,6 +11,3 @@ mod verdict;
 pub use entries::put_entries;
 pub use report::{put_args, put_init, put_verdict};
 pub use verdict::{InitVerdict, Verdict};
-
-#[cfg(test)]
-mod tests;

@@ -9,7 +9,7 @@ use Rattle.hk_verdict.specs.declared.verdict.Verdict.{Verdict}
 use Rattle.hk_verify.specs.declared.kinds.Counts.{Counts}
 use Rattle.hk_verify.specs.declared.answer.Answer.{Answer}
 use Rattle.hk_verify.specs.declared.answer.TopFault.{TopFault}
-use Rattle.hk_verify.specs.declared.answer.TopFault.TheVariants.{Usage, Read, Long, Kernel as OfKernel, Spec as OfSpec, Cnf as OfCnf, Call as OfCall, Memory, Write}
+use Rattle.hk_verify.specs.declared.answer.TopFault.TheVariants.{Usage, Read, Long, Kernel as OfKernel, Spec as OfSpec, Cert as OfCert, Cnf as OfCnf, Call as OfCall, Memory, Write}
 use Rattle.hk_verify.specs.Words.{IsBench}
 use Rattle.hk_verify.specs.Inputs.{ShelfView, CountsLoads}
 use Rattle.hk_verify.specs.Answers.{SinkView, HidesNone}
@@ -58,6 +58,7 @@ no_loads sink answer (Some (Read w)) before after still counts = absurd counts
 no_loads sink answer (Some (Long w)) before after still counts = absurd counts
 no_loads sink answer (Some (OfKernel f)) before after still counts = absurd counts
 no_loads sink answer (Some (OfSpec f)) before after still counts = absurd counts
+no_loads sink answer (Some (OfCert f)) before after still counts = absurd counts
 no_loads sink answer (Some (OfCnf f)) before after still counts = absurd counts
 no_loads sink answer (Some (OfCall f)) before after still counts = absurd counts
 no_loads sink answer (Some Memory) before after still counts = absurd counts
@@ -72,6 +73,7 @@ loads_of n (Read w) before after still cause = absurd cause
 loads_of n (Long w) before after still cause = still
 loads_of n (OfKernel f) before after still cause = still
 loads_of n (OfSpec f) before after still cause = still
+loads_of n (OfCert f) before after still cause = still
 loads_of n (OfCnf f) before after still cause = still
 loads_of n (OfCall f) before after still cause = still
 loads_of n Memory before after still cause = still

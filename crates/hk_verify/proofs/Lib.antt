@@ -1,12 +1,15 @@
 mod Benched
 mod Certainty
+mod Certificates
 mod Counts
 mod Forms
+mod Keeping
 mod Loading
 mod NumberWords
 mod Pushes
 mod Right
 mod Shapes
 mod SpecReading
+mod ThreeTexts
 mod Whole
 mod WholeReading

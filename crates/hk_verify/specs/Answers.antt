@@ -13,7 +13,7 @@ use Rattle.hk_decide.specs.Opening.{IsOpening}
 use Rattle.hk_verify.specs.Verdicts.{AreRight, AreCut}
 use Rattle.hk_verify.specs.declared.answer.Answer.{Answer}
 use Rattle.hk_verify.specs.declared.answer.TopFault.{TopFault}
-use Rattle.hk_verify.specs.declared.answer.TopFault.TheVariants.{Usage, Read, Long, Kernel as OfKernel, Spec as OfSpec, Cnf as OfCnf, Call as OfCall, Memory, Write}
+use Rattle.hk_verify.specs.declared.answer.TopFault.TheVariants.{Usage, Read, Long, Kernel as OfKernel, Spec as OfSpec, Cert as OfCert, Cnf as OfCnf, Call as OfCall, Memory, Write}
 use Rattle.hk_verify.specs.Inputs.{ShelfView, AreRead, CountsLoads, HasCause}
 use Rattle.hk_verify.specs.Lines.{fault_text, fault_status, verdict_status}
 
@@ -65,6 +65,7 @@ ReportsWith sink budget m spec answer (Some (Read w)) = ⊥
 ReportsWith sink budget m spec answer (Some (Long w)) = ⊥
 ReportsWith sink budget m spec answer (Some (OfKernel f)) = ⊥
 ReportsWith sink budget m spec answer (Some (OfSpec f)) = ⊥
+ReportsWith sink budget m spec answer (Some (OfCert f)) = ⊥
 ReportsWith sink budget m spec answer (Some (OfCnf f)) = ⊥
 ReportsWith sink budget m spec answer (Some (OfCall f)) = ⊥
 ReportsWith sink budget m spec answer (Some Memory) = ⊥

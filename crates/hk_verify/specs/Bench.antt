@@ -14,7 +14,7 @@ use Rattle.hk_verdict.specs.declared.verdict.InitVerdict.TheVariants.{NotRun}
 use Rattle.hk_verify.specs.declared.kinds.Counts.{Counts}
 use Rattle.hk_verify.specs.declared.answer.Answer.{Answer}
 use Rattle.hk_verify.specs.declared.answer.TopFault.{TopFault}
-use Rattle.hk_verify.specs.declared.answer.TopFault.TheVariants.{Usage, Read, Long, Kernel as OfKernel, Spec as OfSpec, Cnf as OfCnf, Call as OfCall, Memory, Write}
+use Rattle.hk_verify.specs.declared.answer.TopFault.TheVariants.{Usage, Read, Long, Kernel as OfKernel, Spec as OfSpec, Cert as OfCert, Cnf as OfCnf, Call as OfCall, Memory, Write}
 use Rattle.hk_verify.specs.Words.{usual_conflicts}
 use Rattle.hk_verify.specs.Whole.{IsWhole}
 use Rattle.hk_verify.specs.Specifications.{IsTheSpec}
@@ -80,6 +80,7 @@ CountsWith sink answer (Some (Read w)) = ⊥
 CountsWith sink answer (Some (Long w)) = ⊥
 CountsWith sink answer (Some (OfKernel f)) = ⊥
 CountsWith sink answer (Some (OfSpec f)) = ⊥
+CountsWith sink answer (Some (OfCert f)) = ⊥
 CountsWith sink answer (Some (OfCnf f)) = ⊥
 CountsWith sink answer (Some (OfCall f)) = ⊥
 CountsWith sink answer (Some Memory) = ⊥

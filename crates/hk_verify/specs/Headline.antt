@@ -1,5 +1,5 @@
 -- The headline in the subject's own words, of files that the shelf tells of: what an acceptance, a rejection and an unknown
--- answer to `verify KERNEL SPEC [--conflicts N]` mean.
+-- answer to `verify KERNEL SPEC [--conflicts N] [--cert FILE]` mean.
 
 use Rattle.std.specs.Prelude.{ℕ, ◌≡◌, List, Option, Some, slice_get}
 use Rattle.hk_io.specs.Held.{Files, held_under}
@@ -18,7 +18,7 @@ use Rattle.hk_decide.specs.Right.{IsRefuted, IsUndecided}
 use Rattle.hk_verify.specs.declared.answer.Answer.{Answer}
 use Rattle.hk_verify.specs.Whole.{IsKernelText}
 use Rattle.hk_verify.specs.Specifications.{IsSpecText}
-use Rattle.hk_verify.specs.Words.{IsVerify}
+use Rattle.hk_verify.specs.Words.{IsVerification}
 
 -- The shelf holds these texts under the two words, they spell this kernel, of which this is the layout, and this
 -- specification for it, and this handler is the specification's, at this place. A round of the solver may take so many
@@ -28,7 +28,7 @@ pub record IsHandler (held : Option Files) (words : List (List ℕ)) (budget : �
   pub spec_name : List ℕ
   pub kernel_text : List ℕ
   pub spec_text : List ℕ
-  pub form : IsVerify words kernel_name spec_name budget
+  pub form : IsVerification words kernel_name spec_name budget
   pub kernel_held : held_under held kernel_name ≡ Some kernel_text
   pub spec_held : held_under held spec_name ≡ Some spec_text
   pub kernel_spelled : IsKernelText kernel_text m

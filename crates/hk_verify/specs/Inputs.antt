@@ -14,7 +14,7 @@ use Rattle.hk_verify.specs.Whole.{IsWhole, RefusesWhole}
 use Rattle.hk_verify.specs.Specifications.{IsTheSpec, RefusesSpecText}
 use Rattle.hk_verify.specs.declared.inputs.Inputs.{Inputs}
 use Rattle.hk_verify.specs.declared.answer.TopFault.{TopFault}
-use Rattle.hk_verify.specs.declared.answer.TopFault.TheVariants.{Usage, Read, Long, Kernel as OfKernel, Spec as OfSpec, Cnf as OfCnf, Call as OfCall, Memory, Write}
+use Rattle.hk_verify.specs.declared.answer.TopFault.TheVariants.{Usage, Read, Long, Kernel as OfKernel, Spec as OfSpec, Cert as OfCert, Cnf as OfCnf, Call as OfCall, Memory, Write}
 
 -- The most bytes of a kernel text: 16 MiB.
 abbrev pub kernel_limit : ℕ
@@ -75,6 +75,7 @@ IsLoadFault shelf file Memory = ⊤
 IsLoadFault shelf file Usage = ⊥
 IsLoadFault shelf file (OfKernel f) = ⊥
 IsLoadFault shelf file (OfSpec f) = ⊥
+IsLoadFault shelf file (OfCert f) = ⊥
 IsLoadFault shelf file (OfCnf f) = ⊥
 IsLoadFault shelf file (OfCall f) = ⊥
 IsLoadFault shelf file Write = ⊥
@@ -126,6 +127,7 @@ HasCause shelf kernel spec (Read w) = IsLoadingFault shelf (verify_files kernel 
 HasCause shelf kernel spec (Long w) = IsLoadingFault shelf (verify_files kernel spec) (Long w)
 HasCause shelf kernel spec (OfKernel f) = RefusesKernel shelf.held kernel spec f
 HasCause shelf kernel spec (OfSpec f) = RefusesSpec shelf.held kernel spec f
+HasCause shelf kernel spec (OfCert f) = ⊥
 HasCause shelf kernel spec (OfCnf f) = ⊥
 HasCause shelf kernel spec (OfCall f) = ⊥
 HasCause shelf kernel spec Memory = ⊤
@@ -149,6 +151,7 @@ ReadsTo kernel_text spec_text (Err Memory) = ⊤
 ReadsTo kernel_text spec_text (Err Usage) = ⊥
 ReadsTo kernel_text spec_text (Err (Read w)) = ⊥
 ReadsTo kernel_text spec_text (Err (Long w)) = ⊥
+ReadsTo kernel_text spec_text (Err (OfCert f)) = ⊥
 ReadsTo kernel_text spec_text (Err (OfCnf f)) = ⊥
 ReadsTo kernel_text spec_text (Err (OfCall f)) = ⊥
 ReadsTo kernel_text spec_text (Err Write) = ⊥

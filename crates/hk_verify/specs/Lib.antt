@@ -1,5 +1,7 @@
 pub mod Answers
 pub mod Bench
+pub mod Certified
+pub mod Claims
 pub mod Headline
 pub mod Inputs
 pub mod Lines

@@ -7,6 +7,8 @@ use Rattle.ir_ast.specs.declared.fault.KernelReason.{KernelReason}
 use Rattle.ir_ast.specs.declared.fault.KernelReason.TheVariants.{K1, K2, K3, K4, K5, K6, K7, K8, K9, K10, K11, K12, K13, K14, K15}
 use Rattle.spec_ast.specs.declared.fault.SpecReason.{SpecReason}
 use Rattle.spec_ast.specs.declared.fault.SpecReason.TheVariants.{S1, S2, S3, S4, S5, S6, S7, S8, S9, S10, S11, S12, S13, S14, S15}
+use Rattle.hk_cert_lines.specs.declared.reason.CertReason.{CertReason}
+use Rattle.hk_cert_lines.specs.declared.reason.CertReason.TheVariants.{Q1, Q2, Q3}
 use Rattle.hk_cnf.specs.declared.dimacs_read.CnfReason.{CnfReason}
 use Rattle.hk_cnf.specs.declared.dimacs_read.CnfReason.TheVariants.{C1, C2, C3}
 use Rattle.hk_rows.specs.Texts.{line}
@@ -17,7 +19,7 @@ use Rattle.hk_verdict.specs.declared.verdict.InitVerdict.TheVariants.{NotRun, Ho
 use Rattle.hk_verify.specs.declared.answer.CallReason.{CallReason}
 use Rattle.hk_verify.specs.declared.answer.CallReason.TheVariants.{A1, A2, A3}
 use Rattle.hk_verify.specs.declared.answer.TopFault.{TopFault}
-use Rattle.hk_verify.specs.declared.answer.TopFault.TheVariants.{Usage, Read, Long, Kernel, Spec, Cnf, Call, Memory, Write}
+use Rattle.hk_verify.specs.declared.answer.TopFault.TheVariants.{Usage, Read, Long, Kernel, Spec, Cert, Cnf, Call, Memory, Write}
 
 -- A reason as it is printed.
 abbrev pub kernel_code : KernelReason → List ℕ
@@ -54,6 +56,11 @@ spec_code S13 = codes "S13"
 spec_code S14 = codes "S14"
 spec_code S15 = codes "S15"
 
+abbrev pub cert_code : CertReason → List ℕ
+cert_code Q1 = codes "Q1"
+cert_code Q2 = codes "Q2"
+cert_code Q3 = codes "Q3"
+
 abbrev pub cnf_code : CnfReason → List ℕ
 cnf_code C1 = codes "C1"
 cnf_code C2 = codes "C2"
@@ -75,6 +82,7 @@ fault_text words (Read w) = line (codes "read fault " ∷ slice_index_or words w
 fault_text words (Long w) = line (codes "long " ∷ slice_index_or words w [] ∷ [])
 fault_text words (Kernel f) = coded_line (codes "kernel ") f.line (kernel_code f.reason)
 fault_text words (Spec f) = coded_line (codes "spec ") f.line (spec_code f.reason)
+fault_text words (Cert f) = coded_line (codes "cert ") f.line (cert_code f.reason)
 fault_text words (Cnf f) = coded_line (codes "cnf ") f.line (cnf_code f.reason)
 fault_text words (Call f) = line (codes "call " ∷ slice_index_or words 2 [] ∷ codes ": " ∷ call_code f.reason ∷ [])
 fault_text words Memory = line (codes "memory" ∷ [])
@@ -87,6 +95,7 @@ fault_status (Read w) = 5
 fault_status (Long w) = 3
 fault_status (Kernel f) = 3
 fault_status (Spec f) = 3
+fault_status (Cert f) = 3
 fault_status (Cnf f) = 3
 fault_status (Call f) = 3
 fault_status Memory = 7

@@ -11,15 +11,15 @@ use Rattle.hk_cnf.specs.declared.dimacs_read.CnfFault.{CnfFault}
 use Rattle.hk_cnf.specs.declared.dimacs_read.CnfReason.{CnfReason}
 use Rattle.hk_lrat.specs.declared.log.LratRow.{LratRow}
 use Rattle.hk_lrat.specs.declared.log.RowReason.{RowReason}
-use Rattle.hk_lrat.specs.declared.log.RowReason.TheVariants.{L1, L2, L3, L4, L5, L6, L7}
 use Rattle.hk_lrat.specs.Log.{Fault, log_fault}
 use Rattle.hk_lrat.specs.LogText.{log_of}
 use Rattle.hk_rows.specs.Texts.{line}
 use Rattle.hk_verdict.specs.declared.verdict.InitVerdict.TheVariants.{NotRun}
 use Rattle.hk_verify.specs.declared.answer.Answer.{Answer}
 use Rattle.hk_verify.specs.declared.answer.TopFault.{TopFault}
-use Rattle.hk_verify.specs.declared.answer.TopFault.TheVariants.{Usage, Read, Long, Kernel as OfKernel, Spec as OfSpec, Cnf as OfCnf, Call as OfCall, Memory, Write}
+use Rattle.hk_verify.specs.declared.answer.TopFault.TheVariants.{Usage, Read, Long, Kernel as OfKernel, Spec as OfSpec, Cert as OfCert, Cnf as OfCnf, Call as OfCall, Memory, Write}
 use Rattle.hk_verify.specs.Words.{IsLrat}
+use Rattle.hk_claims.specs.Lines.{row_code}
 use Rattle.hk_verify.specs.Inputs.{ShelfView, AreLoaded, IsLoadingFault, lrat_files}
 use Rattle.hk_verify.specs.Answers.{SinkView, IsRefused}
 
@@ -31,16 +31,6 @@ fault_of list (Err fault) = Some fault
 
 abbrev pub proof_fault : Clauses → List ℕ → Option Fault
 proof_fault list text = fault_of list (log_of text)
-
--- A reason as it is printed.
-abbrev pub row_code : RowReason → List ℕ
-row_code L1 = codes "L1"
-row_code L2 = codes "L2"
-row_code L3 = codes "L3"
-row_code L4 = codes "L4"
-row_code L5 = codes "L5"
-row_code L6 = codes "L6"
-row_code L7 = codes "L7"
 
 -- The line of a proof.
 abbrev pub proof_text : Option Fault → List ℕ
@@ -73,6 +63,7 @@ TellsWith sink outcome answer (Some (Read w)) = ⊥
 TellsWith sink outcome answer (Some (Long w)) = ⊥
 TellsWith sink outcome answer (Some (OfKernel f)) = ⊥
 TellsWith sink outcome answer (Some (OfSpec f)) = ⊥
+TellsWith sink outcome answer (Some (OfCert f)) = ⊥
 TellsWith sink outcome answer (Some (OfCnf f)) = ⊥
 TellsWith sink outcome answer (Some (OfCall f)) = ⊥
 TellsWith sink outcome answer (Some Memory) = ⊥
@@ -103,6 +94,7 @@ pub record RefusesCnf (held : Option Files) (cnf proof : List ℕ) (fault : CnfF
 -- What reading a clause file gives: the list that it spells, or its first fault.
 abbrev pub ReadsCnf : Result Clauses (ℕ × CnfReason) → Result Clauses TopFault → Type 0
 ReadsCnf answer (Ok list) = answer ≡ Ok list
+ReadsCnf answer (Err (OfCert f)) = ⊥
 ReadsCnf answer (Err (OfCnf f)) = answer ≡ Err (f.line, f.reason)
 ReadsCnf answer (Err Memory) = ⊤
 ReadsCnf answer (Err Usage) = ⊥
@@ -117,6 +109,7 @@ ReadsCnf answer (Err Write) = ⊥
 abbrev pub HasLratCause : ShelfView → List ℕ → List ℕ → TopFault → Type 0
 HasLratCause shelf cnf proof (Read w) = IsLoadingFault shelf (lrat_files cnf proof) (Read w)
 HasLratCause shelf cnf proof (Long w) = IsLoadingFault shelf (lrat_files cnf proof) (Long w)
+HasLratCause shelf cnf proof (OfCert f) = ⊥
 HasLratCause shelf cnf proof (OfCnf f) = RefusesCnf shelf.held cnf proof f
 HasLratCause shelf cnf proof Memory = ⊤
 HasLratCause shelf cnf proof Usage = ⊥

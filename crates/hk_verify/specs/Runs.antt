@@ -25,7 +25,7 @@ use Rattle.hk_verify.specs.declared.answer.CallFault.{CallFault}
 use Rattle.hk_verify.specs.declared.answer.CallReason.{CallReason}
 use Rattle.hk_verify.specs.declared.answer.CallReason.TheVariants.{A1, A2, A3}
 use Rattle.hk_verify.specs.declared.answer.TopFault.{TopFault}
-use Rattle.hk_verify.specs.declared.answer.TopFault.TheVariants.{Usage, Read, Long, Kernel as OfKernel, Spec as OfSpec, Cnf as OfCnf, Call as OfCall, Memory, Write}
+use Rattle.hk_verify.specs.declared.answer.TopFault.TheVariants.{Usage, Read, Long, Kernel as OfKernel, Spec as OfSpec, Cert as OfCert, Cnf as OfCnf, Call as OfCall, Memory, Write}
 use Rattle.hk_verify.specs.Inputs.{ShelfView, AreLoaded, IsLoadingFault, run_files}
 use Rattle.hk_verify.specs.Answers.{SinkView, IsRefused}
 use Rattle.hk_verify.specs.Whole.{IsWhole, RefusesWhole}
@@ -47,6 +47,7 @@ FaultOf why (Read w) = ⊥
 FaultOf why (Long w) = ⊥
 FaultOf why (OfKernel f) = ⊥
 FaultOf why (OfSpec f) = ⊥
+FaultOf why (OfCert f) = ⊥
 FaultOf why (OfCnf f) = ⊥
 FaultOf why Write = ⊥
 
@@ -70,6 +71,7 @@ Calls m function arguments (Err (Read w)) = ⊥
 Calls m function arguments (Err (Long w)) = ⊥
 Calls m function arguments (Err (OfKernel f)) = ⊥
 Calls m function arguments (Err (OfSpec f)) = ⊥
+Calls m function arguments (Err (OfCert f)) = ⊥
 Calls m function arguments (Err (OfCnf f)) = ⊥
 Calls m function arguments (Err Write) = ⊥
 
@@ -140,6 +142,7 @@ TellsEndWith sink m e answer (Some (Read w)) = ⊥
 TellsEndWith sink m e answer (Some (Long w)) = ⊥
 TellsEndWith sink m e answer (Some (OfKernel f)) = ⊥
 TellsEndWith sink m e answer (Some (OfSpec f)) = ⊥
+TellsEndWith sink m e answer (Some (OfCert f)) = ⊥
 TellsEndWith sink m e answer (Some (OfCnf f)) = ⊥
 TellsEndWith sink m e answer (Some (OfCall f)) = ⊥
 TellsEndWith sink m e answer (Some Memory) = ⊥
@@ -180,6 +183,7 @@ HasRunCause shelf kernel function arguments (OfCall f) = RefusesCall shelf.held 
 HasRunCause shelf kernel function arguments Memory = ⊤
 HasRunCause shelf kernel function arguments Usage = ⊥
 HasRunCause shelf kernel function arguments (OfSpec f) = ⊥
+HasRunCause shelf kernel function arguments (OfCert f) = ⊥
 HasRunCause shelf kernel function arguments (OfCnf f) = ⊥
 HasRunCause shelf kernel function arguments Write = ⊥
 

@@ -1,6 +1,6 @@
 -- The verdicts of the handlers, one after another, and what is shown of them.
 
-use Rattle.std.specs.Prelude.{ℕ, ◌≡◌, ◌++◌, ◌∷◌, [], List, Option}
+use Rattle.std.specs.Prelude.{ℕ, ◌≡◌, ◌++◌, ◌∷◌, [], List, Option, length}
 use Rattle.std.specs.List.{AllZip}
 use Rattle.hk_io.specs.Shown.{shown_with, ShowsPrefix}
 use Rattle.ir_ast.specs.Program.{ModuleView}
@@ -8,7 +8,8 @@ use Rattle.ir_layout.specs.Layouts.{LayoutView, IsLayoutOf}
 use Rattle.spec_tree.specs.Plain.{Spec, Transition}
 use Rattle.hk_verdict.specs.declared.verdict.Verdict.{Verdict}
 use Rattle.hk_verdict.specs.Report.{verdict_text, verdicts_text}
-use Rattle.hk_decide.specs.Right.{IsRight}
+use Rattle.hk_case.specs.Obligations.{obligations_of}
+use Rattle.hk_decide.specs.Right.{IfAccepted, IsRight}
 
 -- The verdict is right for the handler where a round may take so many conflicts, over the objects of the kernel's layout.
 abbrev pub IsRightFor : ℕ → ModuleView → Spec → Transition → Verdict → Type 0
@@ -17,6 +18,19 @@ IsRightFor budget m spec t verdict = (layout : LayoutView) → IsLayoutOf m layo
 -- Right verdicts for these handlers, one for each in their order.
 abbrev pub AreRight : ℕ → ModuleView → Spec → List Transition → List Verdict → Type 0
 AreRight budget m spec transitions verdicts = AllZip (IsRightFor budget m spec) transitions verdicts
+
+-- An acceptance has one proof for each obligation of its handler.
+abbrev pub HasProofs : Spec → Transition → Verdict → Type 0
+HasProofs spec t verdict = IfAccepted (λ proofs. length proofs ≡ length (obligations_of spec t)) verdict
+
+abbrev pub AreKept : Spec → List Transition → List Verdict → Type 0
+AreKept spec transitions verdicts = AllZip (HasProofs spec) transitions verdicts
+
+-- One verdict was added to the list, with its proofs.
+pub record KeepsOne (spec : Spec) (t : Transition) (old new : List Verdict) : Type 0 where
+  pub verdict : Verdict
+  pub proofs : HasProofs spec t verdict
+  pub added : new ≡ old ++ verdict ∷ []
 
 -- The verdict of one handler was added to the list, and its lines are shown.
 pub record Adds (budget : ℕ) (m : ModuleView) (spec : Spec) (t : Transition) (old new : List Verdict) (shown shown' : Option (List ℕ)) : Type 0 where

@@ -12,7 +12,7 @@ use Rattle.ir_layout.specs.Rules.{IsLaidOut}
 use Rattle.ir_check.specs.Rules.{IsWellFormed}
 use Rattle.ir_kernel.specs.Answers.{IsRefusal}
 use Rattle.hk_verify.specs.declared.answer.TopFault.{TopFault}
-use Rattle.hk_verify.specs.declared.answer.TopFault.TheVariants.{Usage, Read, Long, Kernel as OfKernel, Spec as OfSpec, Cnf as OfCnf, Call as OfCall, Memory, Write}
+use Rattle.hk_verify.specs.declared.answer.TopFault.TheVariants.{Usage, Read, Long, Kernel as OfKernel, Spec as OfSpec, Cert as OfCert, Cnf as OfCnf, Call as OfCall, Memory, Write}
 
 -- The text spells this module, which can be laid out and is well formed.
 pub record IsKernelText (text : List ℕ) (m : ModuleView) : Type 0 where
@@ -57,6 +57,7 @@ ReadsWhole text (Err Usage) = ⊥
 ReadsWhole text (Err (Read w)) = ⊥
 ReadsWhole text (Err (Long w)) = ⊥
 ReadsWhole text (Err (OfSpec f)) = ⊥
+ReadsWhole text (Err (OfCert f)) = ⊥
 ReadsWhole text (Err (OfCnf f)) = ⊥
 ReadsWhole text (Err (OfCall f)) = ⊥
 ReadsWhole text (Err Write) = ⊥

@@ -1,6 +1,6 @@
 -- The forms of the command words.
 
-use Rattle.std.specs.Prelude.{ℕ, ◌≡◌, ◌<◌, ◌≤◌, ◌^◌, ◌⊎◌, List, [], ◌∷◌, map, codes, String, string_bytes, All}
+use Rattle.std.specs.Prelude.{ℕ, ◌≡◌, ◌<◌, ◌≤◌, ◌^◌, ◌⊎◌, List, [], ◌∷◌, ◌++◌, map, codes, String, string_bytes, All}
 use Rattle.std.specs.Fmt.{decimal}
 use Rattle.std.specs.declared.alloc.Global.{Global}
 
@@ -31,6 +31,26 @@ pub record IsVerify (words : List (List ℕ)) (kernel spec : List ℕ) (budget :
   pub form : words ≡ codes "verify" ∷ kernel ∷ spec ∷ options
   pub allowed : AllowConflicts options budget
 
+-- These options ask for a certificate under this name, and let a round take so many conflicts.
+pub record AsksFor (options : List (List ℕ)) (budget : ℕ) (cert : List ℕ) : Type 0 where
+  pub front : List (List ℕ)
+  pub form : options ≡ front ++ codes "--cert" ∷ cert ∷ []
+  pub allowed : AllowConflicts front budget
+
+-- The words `verify KERNEL SPEC [--conflicts N] --cert FILE`.
+pub record IsCertifying (words : List (List ℕ)) (kernel spec : List ℕ) (budget : ℕ) (cert : List ℕ) : Type 0 where
+  pub options : List (List ℕ)
+  pub form : words ≡ codes "verify" ∷ kernel ∷ spec ∷ options
+  pub asked : AsksFor options budget cert
+
+-- No certificate is asked for.
+abbrev pub IsNotCertifying : List (List ℕ) → Type 0
+IsNotCertifying words = (kernel spec : List ℕ) (budget : ℕ) (cert : List ℕ) → IsCertifying words kernel spec budget cert → ⊥
+
+-- The words of `verify`, with a certificate asked for or without.
+abbrev pub IsVerification : List (List ℕ) → List ℕ → List ℕ → ℕ → Type 0
+IsVerification words kernel spec budget = IsVerify words kernel spec budget ⊎ ((cert : List ℕ) × IsCertifying words kernel spec budget cert)
+
 -- The words `lrat CNF PROOF`.
 abbrev pub IsLrat : List (List ℕ) → List ℕ → List ℕ → Type 0
 IsLrat words cnf proof = words ≡ codes "lrat" ∷ cnf ∷ proof ∷ []
@@ -46,6 +66,13 @@ pub record IsBench (words : List (List ℕ)) (n : ℕ) : Type 0 where
   pub some : 1 ≤ n
   pub few : n ≤ 64
 
+-- The words `check KERNEL SPEC CERT` and `replay KERNEL SPEC CERT`.
+abbrev pub IsCheck : List (List ℕ) → List ℕ → List ℕ → List ℕ → Type 0
+IsCheck words kernel spec cert = words ≡ codes "check" ∷ kernel ∷ spec ∷ cert ∷ []
+
+abbrev pub IsReplay : List (List ℕ) → List ℕ → List ℕ → List ℕ → Type 0
+IsReplay words kernel spec cert = words ≡ codes "replay" ∷ kernel ∷ spec ∷ cert ∷ []
+
 -- Each word is the decimal digits of a number below 2^64.
 pub record AreNumbers (words : List (List ℕ)) : Type 0 where
   pub numbers : List ℕ
@@ -55,6 +82,9 @@ pub record AreNumbers (words : List (List ℕ)) : Type 0 where
 -- The words have no form.
 pub record HasNoForm (words : List (List ℕ)) : Type 0 where
   pub no_verify : (kernel spec : List ℕ) (budget : ℕ) → IsVerify words kernel spec budget → ⊥
+  pub no_cert : (kernel spec : List ℕ) (budget : ℕ) (cert : List ℕ) → IsCertifying words kernel spec budget cert → ⊥
+  pub no_check : (kernel spec cert : List ℕ) → IsCheck words kernel spec cert → ⊥
+  pub no_replay : (kernel spec cert : List ℕ) → IsReplay words kernel spec cert → ⊥
   pub no_lrat : (cnf proof : List ℕ) → IsLrat words cnf proof → ⊥
   pub no_run : (kernel function : List ℕ) (arguments : List ℕ) → IsRun words kernel function arguments → ⊥
   pub no_bench : (n : ℕ) → IsBench words n → ⊥

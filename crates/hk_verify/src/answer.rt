@@ -1,5 +1,6 @@
 //! What the top call answers.
 
+use hk_cert::CertFault;
 use hk_cnf::CnfFault;
 use hk_seq::Seq;
 use hk_verdict::{InitVerdict, Verdict};
@@ -38,6 +39,8 @@ pub enum TopFault {
     Kernel(KernelFault),
     /// The specification text is refused.
     Spec(SpecFault),
+    /// The certificate is refused.
+    Cert(CertFault),
     /// The clause file is refused.
     Cnf(CnfFault),
     /// The function is not run.

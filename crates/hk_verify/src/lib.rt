@@ -6,6 +6,8 @@
 
 pub mod answer;
 mod benchmark;
+mod certify;
+mod claims;
 mod inputs;
 mod kernel;
 mod kinds;

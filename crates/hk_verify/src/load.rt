@@ -14,11 +14,21 @@ const FIRST_WORD: u32 = 1;
 /// The word that names the second file.
 const SECOND_WORD: u32 = 2;
 
+/// The word that names the third file.
+const THIRD_WORD: u32 = 3;
+
 /// The bytes of both files.
 #[derive(Drop)]
 pub struct Texts {
     pub first: Vec<u8>,
     pub second: Vec<u8>,
+}
+
+/// The bytes of three files.
+#[derive(Drop)]
+pub struct ThreeTexts {
+    pub both: Texts,
+    pub third: Vec<u8>,
 }
 
 /// Loads the file of a word, of at most `limit` bytes.
@@ -77,4 +87,32 @@ pub fn load_both<F: Shelf>(
     let first = load(alloc, shelf, FIRST_WORD, first, first_limit)?;
     let second = load(alloc, shelf, SECOND_WORD, second, second_limit)?;
     Ok(Texts { first, second })
+}
+
+/// Loads the files of the words 1 to 3, each of at most so many bytes and only behind the one before it.
+pub fn load_three<F: Shelf>(
+    alloc: Global,
+    shelf: &mut F,
+    first: &str,
+    first_limit: u32,
+    second: &str,
+    second_limit: u32,
+    third: &str,
+    third_limit: u32,
+) -> Result<ThreeTexts, TopFault>
+    ensures loaded { IfOk result (λ texts. AreLoaded (F.held shelf.old)
+        (asked 1 first.now first_limit ∷ asked 2 second.now second_limit ∷ asked 3 third.now third_limit ∷ []) (texts.both.first.items ∷ texts.both.second.items ∷ texts.third.items ∷ [])) }
+    ensures fault { IfErr result (IsLoadingFault (seen (F.held shelf.old) (F.faults shelf.old) (F.faults shelf.new))
+        (asked 1 first.now first_limit ∷ asked 2 second.now second_limit ∷ asked 3 third.now third_limit ∷ [])) }
+    ensures counts { CountsLoads (result_err result) (F.faults shelf.old) (F.faults shelf.new) }
+    ensures held { F.held shelf.new ≡ F.held shelf.old }
+{
+    let both = match load_both(alloc, shelf, first, first_limit, second, second_limit) {
+        Ok(both) => both,
+        Err(fault) => return Err(fault),
+    };
+    match load(alloc, shelf, THIRD_WORD, third, third_limit) {
+        Ok(third) => Ok(ThreeTexts { both, third }),
+        Err(fault) => Err(fault),
+    }
 }

@@ -11,11 +11,12 @@ ghost use Rattle.hk_verify.specs.declared.answer.TopFault.TheVariants.{Memory as
 ghost use Rattle.hk_verify.specs.Inputs.{ShelfView, CountsLoads};
 ghost use Rattle.hk_verify.specs.Answers.{SinkView, HidesNone};
 ghost use Rattle.hk_verify.specs.Words.{bytes_of};
-ghost use Rattle.hk_verify.specs.Lrat.{HasLratCause, IsTried, MeansLrat, ReadsCnf, Tells, proof_fault, proof_status, proof_text, row_code};
+ghost use Rattle.hk_verify.specs.Lrat.{HasLratCause, IsTried, MeansLrat, ReadsCnf, Tells, proof_fault, proof_status, proof_text};
 
 use crate::answer::{Answer, TopFault};
 use crate::load::load_both;
 use crate::refusal::{refuse, status};
+use hk_claims::row_reason;
 use hk_cnf::{ClauseList, CnfStop, read_dimacs};
 use hk_io::{Shelf, Sink, SinkFault};
 use hk_lrat::{RefuteStop, RowReason, read_log, refutes};
@@ -25,7 +26,7 @@ use hk_verdict::InitVerdict;
 use std::alloc::Global;
 
 /// The most bytes of a clause file, and of a proof: 256 MiB.
-const PROOF_LIMIT: u32 = 268_435_456;
+pub const PROOF_LIMIT: u32 = 268_435_456;
 
 /// Reads a clause file.
 fn clauses(alloc: Global, text: &[u8]) -> Result<ClauseList, TopFault>
@@ -84,21 +85,6 @@ fn try_proof<F: Shelf>(
     let texts = load_both(alloc, shelf, cnf, PROOF_LIMIT, proof, PROOF_LIMIT)?;
     let list = clauses(alloc, &texts.first)?;
     outcome(alloc, &list, &texts.second)
-}
-
-/// A reason against a row as it is printed.
-fn row_reason(reason: RowReason) -> &'static [u8]
-    ensures { result.now ≡ row_code reason }
-{
-    match reason {
-        RowReason::L1 => b"L1",
-        RowReason::L2 => b"L2",
-        RowReason::L3 => b"L3",
-        RowReason::L4 => b"L4",
-        RowReason::L5 => b"L5",
-        RowReason::L6 => b"L6",
-        RowReason::L7 => b"L7",
-    }
 }
 
 /// Puts the line of a row that is refused.

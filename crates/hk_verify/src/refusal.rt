@@ -5,15 +5,17 @@ ghost use Rattle.hk_io.specs.Faults.{Rose};
 ghost use Rattle.hk_io.specs.Shown.{shown_with, ShowsPrefix};
 ghost use Rattle.hk_verify.specs.Words.{bytes_of};
 ghost use Rattle.hk_rows.specs.Texts.{line};
-ghost use Rattle.hk_verify.specs.Lines.{fault_text, coded_line, fault_status, kernel_code, spec_code, cnf_code, call_code};
-ghost use Rattle.hk_verify.specs.Answers.{SinkView, IsRefused};
+ghost use Rattle.hk_verify.specs.Lines.{fault_text, coded_line, fault_status, kernel_code, spec_code, cert_code, cnf_code, call_code};
+ghost use Rattle.hk_verdict.specs.declared.verdict.InitVerdict.TheVariants.{NotRun};
+ghost use Rattle.hk_verify.specs.Answers.{SinkView, IsRefused, Says};
 
 use crate::answer::{Answer, CallReason, TopFault};
+use hk_cert_lines::CertReason;
 use hk_cnf::CnfReason;
 use hk_io::{Sink, SinkFault};
 use hk_rows::{Part, put_line};
 use hk_seq::Seq;
-use hk_verdict::InitVerdict;
+use hk_verdict::{InitVerdict, Verdict};
 use ir_ast::KernelReason;
 use spec_ast::SpecReason;
 use std::alloc::Global;
@@ -31,6 +33,7 @@ pub fn status(answer: &TopFault) -> u8
         TopFault::Long { .. } => 3,
         TopFault::Kernel(_) => 3,
         TopFault::Spec(_) => 3,
+        TopFault::Cert(_) => 3,
         TopFault::Cnf(_) => 3,
         TopFault::Call(_) => 3,
         TopFault::Memory => 7,
@@ -81,6 +84,17 @@ fn spec_reason(reason: SpecReason) -> &'static [u8]
         SpecReason::S13 => b"S13",
         SpecReason::S14 => b"S14",
         SpecReason::S15 => b"S15",
+    }
+}
+
+/// A reason against a line of a certificate as it is printed.
+fn cert_reason(reason: CertReason) -> &'static [u8]
+    ensures { result.now ≡ cert_code reason }
+{
+    match reason {
+        CertReason::Q1 => b"Q1",
+        CertReason::Q2 => b"Q2",
+        CertReason::Q3 => b"Q3",
     }
 }
 
@@ -195,6 +209,7 @@ fn put_fault<O: Sink>(out: &mut O, words: &[String], fault: TopFault) -> Result<
             kernel_reason(fault.reason),
         ),
         TopFault::Spec(fault) => put_coded(out, b"spec ", fault.line, spec_reason(fault.reason)),
+        TopFault::Cert(fault) => put_coded(out, b"cert ", fault.line, cert_reason(fault.reason)),
         TopFault::Cnf(fault) => put_coded(out, b"cnf ", fault.line, cnf_reason(fault.reason)),
         TopFault::Call(fault) => put_called(
             out,
@@ -203,6 +218,30 @@ fn put_fault<O: Sink>(out: &mut O, words: &[String], fault: TopFault) -> Result<
         ),
         TopFault::Memory => put_text(out, b"memory"),
         TopFault::Write => Ok(()),
+    }
+}
+
+/// Ends a call with a fault behind the lines of these verdicts: its line is put, and a fault of that put changes nothing in the answer.
+pub fn refuse_behind<O: Sink>(
+    out: &mut O,
+    words: &[String],
+    fault: TopFault,
+    verdicts: Vec<Verdict>,
+) -> Answer
+    ensures fault { result.fault ≡ Some fault }
+    ensures says { let sink : SinkView = record { shown = O.shown out.old; shown' = O.shown out.new; faults = O.faults out.old; faults' = O.faults out.new } in
+        Says sink (fault_text (bytes_of words.now) fault) }
+    ensures status { result.status ≡ fault_status fault }
+    ensures init { result.init ≡ NotRun }
+    ensures verdicts { result.verdicts ≡ verdicts.items }
+{
+    let status = status(&fault);
+    let _ = put_fault(out, words, fault);
+    Answer {
+        status,
+        init: InitVerdict::NotRun,
+        verdicts: Seq::from_vec(verdicts),
+        fault: Some(fault),
     }
 }
 

@@ -1,21 +1,25 @@
 //! The one call that the program makes.
 
 ghost use Rattle.std.specs.Prelude.{◌≡◌, ◌∷◌, [], List, ℕ, IfSome, IfNone};
-ghost use Rattle.hk_verify.specs.Words.{HasNoForm, IsBench, IsLrat, IsRun, IsVerify, bytes_of};
+ghost use Rattle.hk_verify.specs.Words.{HasNoForm, IsBench, IsCertifying, IsCheck, IsLrat, IsReplay, IsNotCertifying, IsRun, IsVerify, bytes_of};
 ghost use Rattle.hk_verify.specs.Inputs.{ShelfView};
 ghost use Rattle.hk_verify.specs.Answers.{SinkView, HidesNone, IsUsage, Means};
 ghost use Rattle.hk_verify.specs.Headline.{AcceptsCorrect, RejectsRefuted, UnknownsSpent};
+ghost use Rattle.hk_verify.specs.Certified.{MeansCertified, SavingView};
+ghost use Rattle.hk_verify.specs.Claims.{MeansCheck, MeansReplay};
 ghost use Rattle.hk_verify.specs.Lrat.{MeansLrat, RefutesSoundly};
 ghost use Rattle.hk_verify.specs.Runs.{MeansRun};
 ghost use Rattle.hk_verify.specs.Bench.{MeansBench};
 
 use crate::answer::{Answer, TopFault};
 use crate::benchmark::bench;
+use crate::certify::certify;
+use crate::claims::{check, replay};
 use crate::lrat::lrat;
 use crate::refusal::refuse;
 use crate::running::run;
 use crate::verify::verify;
-use crate::words::{behind_bench, behind_run, behind_verify};
+use crate::words::{behind_bench, behind_certifying, behind_run, behind_verify, three_behind};
 use hk_io::{Shelf, Sink};
 use std::alloc::Global;
 
@@ -38,7 +42,7 @@ fn names_behind<'x>(words: &'x [String], command: &'x str) -> Option<(&'x str, &
 
 /// Does what the words ask, reads from the shelf and reports on the sink.
 ///
-/// The forms so far are `verify KERNEL SPEC [--conflicts N]`, `lrat CNF PROOF`, `run KERNEL FUNCTION [ARG ..]` and `bench N`; other words
+/// The forms so far are `verify KERNEL SPEC [--conflicts N] [--cert FILE]`, `check KERNEL SPEC CERT`, `replay KERNEL SPEC CERT`, `lrat CNF PROOF`, `run KERNEL FUNCTION [ARG ..]` and `bench N`; other words
 /// are a faulty command line. Want of memory alone is free.
 pub fn run_words<F: Shelf, O: Sink>(
     alloc: Global,
@@ -57,6 +61,21 @@ pub fn run_words<F: Shelf, O: Sink>(
         let view : ShelfView = record { held = F.held shelf.old; before = F.faults shelf.old; after = F.faults shelf.new } in
         let sink : SinkView = record { shown = O.shown out.old; shown' = O.shown out.new; faults = O.faults out.old; faults' = O.faults out.new } in
         Means view sink (bytes_of words.now) kernel spec budget result }
+    // what is answered, shown and saved where a certificate is asked for: the report of right verdicts and, behind the whole of it, its text
+    ensures certified { (kernel spec : List ℕ) (budget : ℕ) (cert : List ℕ) → IsCertifying (bytes_of words.now) kernel spec budget cert →
+        let view : SavingView = record { held = F.held shelf.old; held' = F.held shelf.new; before = F.faults shelf.old; after = F.faults shelf.new } in
+        let sink : SinkView = record { shown = O.shown out.old; shown' = O.shown out.new; faults = O.faults out.old; faults' = O.faults out.new } in
+        MeansCertified view sink (bytes_of words.now) kernel spec budget cert result }
+    // what is answered and shown for a certificate's acceptances: for each handler whether its proofs hold, or a fault with its cause
+    ensures rechecked { (kernel spec cert : List ℕ) → IsCheck (bytes_of words.now) kernel spec cert →
+        let view : ShelfView = record { held = F.held shelf.old; before = F.faults shelf.old; after = F.faults shelf.new } in
+        let sink : SinkView = record { shown = O.shown out.old; shown' = O.shown out.new; faults = O.faults out.old; faults' = O.faults out.new } in
+        MeansCheck view sink (bytes_of words.now) kernel spec cert result }
+    // what is answered and shown for a certificate's rejections: for each whether its case violates its obligation, or a fault with its cause
+    ensures replayed { (kernel spec cert : List ℕ) → IsReplay (bytes_of words.now) kernel spec cert →
+        let view : ShelfView = record { held = F.held shelf.old; before = F.faults shelf.old; after = F.faults shelf.new } in
+        let sink : SinkView = record { shown = O.shown out.old; shown' = O.shown out.new; faults = O.faults out.old; faults' = O.faults out.new } in
+        MeansReplay view sink (bytes_of words.now) kernel spec cert result }
     // where a refutation is reported, no assignment satisfies the clause list
     ensures refuted { RefutesSoundly (F.held shelf.old) (bytes_of words.now) result }
     // what is answered and shown for a refutation: the line of its first fault or of none, or a fault with its cause
@@ -78,13 +97,23 @@ pub fn run_words<F: Shelf, O: Sink>(
         let sink : SinkView = record { shown = O.shown out.old; shown' = O.shown out.new; faults = O.faults out.old; faults' = O.faults out.new } in
         IsUsage sink (bytes_of words.now) result }
     // no fault of the outside is hidden: a load that failed is named, and where nothing is named no put failed
-    ensures unhidden { let view : ShelfView = record { held = F.held shelf.old; before = F.faults shelf.old; after = F.faults shelf.new } in
+    ensures unhidden { IsNotCertifying (bytes_of words.now) → let view : ShelfView = record { held = F.held shelf.old; before = F.faults shelf.old; after = F.faults shelf.new } in
         let sink : SinkView = record { shown = O.shown out.old; shown' = O.shown out.new; faults = O.faults out.old; faults' = O.faults out.new } in
         HidesNone view sink result }
-    ensures held { F.held shelf.new ≡ F.held shelf.old }
+    // no file changes but the certificate
+    ensures held { IsNotCertifying (bytes_of words.now) → F.held shelf.new ≡ F.held shelf.old }
 {
+    if let Some((kernel, spec, budget, cert)) = behind_certifying(words) {
+        return certify(alloc, words, kernel, spec, budget, cert, shelf, out);
+    }
     if let Some((kernel, spec, budget)) = behind_verify(words) {
         return verify(alloc, words, kernel, spec, budget, shelf, out);
+    }
+    if let Some((kernel, spec, cert)) = three_behind(words, "check") {
+        return check(alloc, words, kernel, spec, cert, shelf, out);
+    }
+    if let Some((kernel, spec, cert)) = three_behind(words, "replay") {
+        return replay(alloc, words, kernel, spec, cert, shelf, out);
     }
     if let Some((cnf, proof)) = names_behind(words, "lrat") {
         return lrat(alloc, words, cnf, proof, shelf, out);

@@ -1,6 +1,6 @@
 //! The handlers of a specification, decided and reported one after another.
 
-ghost use Rattle.std.specs.Prelude.{◌≡◌, ◌≤◌, ◌+◌, ◌<◌, [], Some, IfOk, OnOk, OnErr, length, slice_get, vec_len};
+ghost use Rattle.std.specs.Prelude.{◌≡◌, ◌≤◌, ◌+◌, ◌<◌, true, [], Some, IfOk, OnOk, OnErr, length, slice_get, vec_len};
 ghost use Rattle.std.specs.Vec.{vec_capacity};
 ghost use Rattle.hk_io.specs.Faults.{Rose};
 ghost use Rattle.ir_ast.specs.ProgramView.{view_module};
@@ -8,7 +8,7 @@ ghost use Rattle.spec_tree.specs.Sorted.{IsWellSorted};
 ghost use Rattle.spec_tree.specs.View.{view_spec, view_transition};
 ghost use Rattle.spec_kernel.specs.Fit.{FitsModule};
 ghost use Rattle.hk_verdict.specs.Report.{IsShownVerdict};
-ghost use Rattle.hk_verify.specs.Verdicts.{Adds, AddsCut, AreCut, AreRight, AreShown, IsRightFor};
+ghost use Rattle.hk_verify.specs.Verdicts.{Adds, AddsCut, AreCut, AreKept, AreRight, AreShown, HasProofs, IsRightFor, KeepsOne};
 
 use hk_decide::decide;
 use hk_io::{Sink, SinkFault};
@@ -25,6 +25,7 @@ fn verdict_of(
     place: u32,
     transition: &Transition,
     budget: u64,
+    keep: bool,
 ) -> Verdict
     requires sorted { IsWellSorted (view_spec spec.now) }
     requires fits { FitsModule (view_module kernel.now) (view_spec spec.now) }
@@ -32,9 +33,10 @@ fn verdict_of(
     requires budget { 1 ≤ budget }
     ensures right { IsRightFor budget (view_module kernel.now) (view_spec spec.now) (view_transition transition.now) result }
     ensures shown { IsShownVerdict (view_spec spec.now) result }
+    ensures kept { keep ≡ true → HasProofs (view_spec spec.now) (view_transition transition.now) result }
 {
     let _layout = kernel.layout();
-    match decide(alloc, kernel, spec, place, budget, false) {
+    match decide(alloc, kernel, spec, place, budget, keep) {
         Ok(verdict) => verdict,
         Err(_) => Verdict::Memory,
     }
@@ -48,6 +50,7 @@ fn decide_next<O: Sink>(
     place: u32,
     transition: &Transition,
     budget: u64,
+    keep: bool,
     verdicts: &mut Vec<Verdict>,
     out: &mut O,
 ) -> Result<(), SinkFault>
@@ -62,8 +65,9 @@ fn decide_next<O: Sink>(
     ensures still { OnOk result (O.faults out.new ≡ O.faults out.old) }
     ensures room { vec_capacity verdicts.new ≡ vec_capacity verdicts.old }
     ensures counted { vec_len verdicts.new ≡ vec_len verdicts.old + 1 }
+    ensures kept { keep ≡ true → KeepsOne (view_spec spec.now) (view_transition transition.now) verdicts.old.items verdicts.new.items }
 {
-    let verdict = verdict_of(alloc, kernel, spec, place, transition, budget);
+    let verdict = verdict_of(alloc, kernel, spec, place, transition, budget, keep);
     let put = put_verdict(out, kernel, spec, transition, &verdict);
     verdicts.push_reserved(verdict);
     put
@@ -72,12 +76,14 @@ fn decide_next<O: Sink>(
 /// Decides every handler in the order of the specification, a round of the solver with so many conflicts at most: its lines are put
 /// before the next one is decided.
 ///
-/// After a failed put the list ends with the handler whose lines failed.
+/// After a failed put the list ends with the handler whose lines failed. Each acceptance has one proof per obligation where they are to be
+/// kept.
 pub fn decide_all<O: Sink>(
     alloc: Global,
     kernel: &Kernel,
     spec: &Spec,
     budget: u64,
+    keep: bool,
     verdicts: &mut Vec<Verdict>,
     out: &mut O,
 ) -> Result<(), SinkFault>
@@ -91,6 +97,7 @@ pub fn decide_all<O: Sink>(
     ensures cut { OnErr result (AreCut budget (view_module kernel.now) (view_spec spec.now) verdicts.new.items (O.shown out.old) (O.shown out.new)) }
     ensures failed { OnErr result (Rose (O.faults out.old) (O.faults out.new)) }
     ensures still { OnOk result (O.faults out.new ≡ O.faults out.old) }
+    ensures kept { OnOk result (keep ≡ true → AreKept (view_spec spec.now) (view_spec spec.now).transitions verdicts.new.items) }
 {
     let transitions = spec.transitions.as_slice();
     for (place, transition) in transitions.iter().enumerate() {
@@ -101,6 +108,7 @@ pub fn decide_all<O: Sink>(
             place as u32,
             transition,
             budget,
+            keep,
             verdicts,
             out,
         )?;
@@ -124,7 +132,7 @@ pub fn verdicts_of(
     let transitions = spec.transitions.as_slice();
     let mut verdicts = Vec::with_capacity(alloc, transitions.len())?;
     for (place, transition) in transitions.iter().enumerate() {
-        let decided = verdict_of(alloc, kernel, spec, place as u32, transition, budget);
+        let decided = verdict_of(alloc, kernel, spec, place as u32, transition, budget, false);
         verdicts.push_reserved(decided);
     }
     Ok(verdicts)

@@ -1,6 +1,6 @@
 //! The command `verify KERNEL SPEC [--conflicts N]`.
 
-ghost use Rattle.std.specs.Prelude.{◌≡◌, ◌≤◌, ℕ, List, [], Some, length, vec_len, IfOk};
+ghost use Rattle.std.specs.Prelude.{◌≡◌, ◌≤◌, ℕ, List, [], Some, None, true, length, vec_len, IfOk};
 ghost use Rattle.std.specs.Vec.{vec_capacity};
 ghost use Rattle.ir_ast.specs.ProgramView.{view_module};
 ghost use Rattle.spec_tree.specs.Sorted.{IsWellSorted};
@@ -12,6 +12,7 @@ ghost use Rattle.hk_verify.specs.Lines.{verdict_status, is_failed as is_failed_o
 ghost use Rattle.hk_verify.specs.Inputs.{ShelfView};
 ghost use Rattle.hk_verify.specs.Answers.{SinkView, HidesNone, Means, Reports};
 ghost use Rattle.hk_verify.specs.Headline.{AcceptsCorrect, RejectsRefuted, UnknownsSpent};
+ghost use Rattle.hk_verify.specs.Verdicts.{AreKept};
 ghost use Rattle.hk_verify.specs.Words.{IsVerify, bytes_of};
 
 use crate::answer::{Answer, TopFault};
@@ -38,7 +39,7 @@ fn is_failed(init: InitVerdict) -> bool
 }
 
 /// Whether something was found wrong: the opening fails, or a handler is rejected.
-fn is_faulted(init: InitVerdict, verdicts: &[Verdict]) -> bool
+pub fn is_faulted(init: InitVerdict, verdicts: &[Verdict]) -> bool
     ensures { result ≡ is_faulted_of init verdicts.now }
 {
     is_failed(init) || has_rejection(verdicts)
@@ -86,13 +87,13 @@ pub fn cut(init: InitVerdict, verdicts: Vec<Verdict>) -> Answer
 
 /// What is known before the first line: the opening, and a list with room for all verdicts.
 #[derive(Drop)]
-struct Begun {
-    init: InitVerdict,
-    verdicts: Vec<Verdict>,
+pub struct Begun {
+    pub init: InitVerdict,
+    pub verdicts: Vec<Verdict>,
 }
 
 /// Reserves the verdicts of all handlers, and tests the initial memory.
-fn begin(alloc: Global, inputs: &Inputs) -> Result<Begun, AllocError>
+pub fn begin(alloc: Global, inputs: &Inputs) -> Result<Begun, AllocError>
     requires sorted { IsWellSorted (view_spec inputs.now.spec) }
     requires fits { FitsModule (view_module inputs.now.kernel) (view_spec inputs.now.spec) }
     ensures opening { IfOk result (λ b. IsOpening (view_module inputs.now.kernel) (view_spec inputs.now.spec) b.init) }
@@ -105,11 +106,13 @@ fn begin(alloc: Global, inputs: &Inputs) -> Result<Begun, AllocError>
     Ok(Begun { init, verdicts })
 }
 
-/// Puts the opening and decides every handler; the list of verdicts has room for all of them.
-fn report<O: Sink>(
+/// Puts the opening and decides every handler, and keeps the proofs of acceptances where they are asked for; the list of verdicts has room
+/// for all of them.
+pub fn report<O: Sink>(
     alloc: Global,
     inputs: &Inputs,
     budget: u64,
+    keep: bool,
     init: InitVerdict,
     mut verdicts: Vec<Verdict>,
     out: &mut O,
@@ -121,8 +124,9 @@ fn report<O: Sink>(
     requires empty { verdicts.items ≡ [] }
     requires unused { vec_len verdicts ≡ 0 }
     requires room { length inputs.now.spec.transitions ≤ vec_capacity verdicts }
-    ensures { let sink : SinkView = record { shown = O.shown out.old; shown' = O.shown out.new; faults = O.faults out.old; faults' = O.faults out.new } in
+    ensures reports { let sink : SinkView = record { shown = O.shown out.old; shown' = O.shown out.new; faults = O.faults out.old; faults' = O.faults out.new } in
         Reports sink budget (view_module inputs.now.kernel) (view_spec inputs.now.spec) result }
+    ensures kept { keep ≡ true → result.fault ≡ None → AreKept (view_spec inputs.now.spec) (view_spec inputs.now.spec).transitions result.verdicts }
 {
     if put_init(out, &inputs.spec, init).is_err() {
         return cut(init, verdicts);
@@ -132,6 +136,7 @@ fn report<O: Sink>(
         &inputs.kernel,
         &inputs.spec,
         budget,
+        keep,
         &mut verdicts,
         out,
     );
@@ -198,7 +203,15 @@ fn load_and_report<'x, F: Shelf, O: Sink>(
         Err(fault) => return refuse(alloc, out, words, fault),
     };
     match begin(alloc, &inputs) {
-        Ok(begun) => report(alloc, &inputs, budget, begun.init, begun.verdicts, out),
+        Ok(begun) => report(
+            alloc,
+            &inputs,
+            budget,
+            false,
+            begun.init,
+            begun.verdicts,
+            out,
+        ),
         Err(_) => refuse(alloc, out, words, TopFault::Memory),
     }
 }

@@ -1,8 +1,8 @@
 //! The words of `verify KERNEL SPEC [--conflicts N]`, of `run KERNEL FUNCTION [ARG ..]` and of `bench N`.
 
-ghost use Rattle.std.specs.Prelude.{◌≡◌, ◌<◌, ◌≤◌, ◌^◌, ◌∷◌, ℕ, List, IfSome, IfNone, IfOk, IsTrue, All, false, map, bytes_eq, codes};
+ghost use Rattle.std.specs.Prelude.{◌≡◌, ◌<◌, ◌≤◌, ◌^◌, ◌∷◌, [], ℕ, List, IfSome, IfNone, IfOk, IsTrue, All, false, map, bytes_eq, codes};
 ghost use Rattle.std.specs.Fmt.{decimal};
-ghost use Rattle.hk_verify.specs.Words.{AllowConflicts, AreNumbers, IsBench, IsRun, IsVerify, bytes_of};
+ghost use Rattle.hk_verify.specs.Words.{AllowConflicts, AreNumbers, AsksFor, IsBench, IsCertifying, IsRun, IsVerify, bytes_of};
 
 use itoa::Buffer;
 use std::alloc::{AllocError, Global};
@@ -93,6 +93,67 @@ pub fn behind_verify<'x>(words: &'x [String]) -> Option<(&'x str, &'x str, u64)>
             match allowed(options) {
                 Some(budget) => Some((kernel.as_str(), spec.as_str(), budget)),
                 None => None,
+            }
+        }
+        _ => None,
+    }
+}
+
+/// The conflicts that a round may take and the name of the certificate by the options of `verify`, where they ask for one.
+fn certified(options: &[String]) -> Option<(u64, &str)>
+    ensures form { IfSome result (λ r. AsksFor (bytes_of options.now) r.0 r.1.now) }
+    ensures some { IfSome result (λ r. 1 ≤ r.0) }
+    ensures none { IfNone result ((budget : ℕ) (cert : List ℕ) → AsksFor (bytes_of options.now) budget cert → ⊥) }
+{
+    match options {
+        [front @ .., option, cert] => {
+            if option.as_str() != "--cert" {
+                return None;
+            }
+            match allowed(front) {
+                Some(budget) => Some((budget, cert.as_str())),
+                None => None,
+            }
+        }
+        _ => None,
+    }
+}
+
+/// The names of the kernel and the specification, the conflicts that a round may take and the name of the certificate, where the words
+/// are those of `verify` with a certificate asked for. It takes no memory.
+pub fn behind_certifying<'x>(words: &'x [String]) -> Option<(&'x str, &'x str, u64, &'x str)>
+    ensures form { IfSome result (λ r. IsCertifying (bytes_of words.now) r.0.now r.1.now r.2 r.3.now) }
+    ensures some { IfSome result (λ r. 1 ≤ r.2) }
+    ensures none { IfNone result ((kernel spec : List ℕ) (budget : ℕ) (cert : List ℕ) → IsCertifying (bytes_of words.now) kernel spec budget cert → ⊥) }
+{
+    match words {
+        [command, kernel, spec, options @ ..] => {
+            if command.as_str() != "verify" {
+                return None;
+            }
+            match certified(options) {
+                Some((budget, cert)) => Some((kernel.as_str(), spec.as_str(), budget, cert)),
+                None => None,
+            }
+        }
+        _ => None,
+    }
+}
+
+/// The three names behind a command, where the words are just these four. It takes no memory.
+pub fn three_behind<'x>(
+    words: &'x [String],
+    command: &'x str,
+) -> Option<(&'x str, &'x str, &'x str)>
+    ensures form { IfSome result (λ names. bytes_of words.now ≡ command.now ∷ names.0.now ∷ names.1.now ∷ names.2.now ∷ []) }
+    ensures no_form { IfNone result ((first second third : List ℕ) → bytes_of words.now ≡ command.now ∷ first ∷ second ∷ third ∷ [] → ⊥) }
+{
+    match words {
+        [word, first, second, third] => {
+            if word.as_str() == command {
+                Some((first.as_str(), second.as_str(), third.as_str()))
+            } else {
+                None
             }
         }
         _ => None,

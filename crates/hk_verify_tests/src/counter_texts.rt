@@ -99,3 +99,39 @@ pub const NEVER: &[&str] = &[
     "def inv_never(kernel):",
     "    return False",
 ];
+
+/// Two counters over one byte.
+pub const COUNTED_TWICE: &[&str] = &[
+    "@ticks = global i8 0",
+    "define void @tick() {",
+    "  %v = load i8, ptr @ticks",
+    "  %n = add i8 %v, 1",
+    "  store i8 %n, ptr @ticks",
+    "  ret void",
+    "}",
+    "define void @tock() {",
+    "  %v = load i8, ptr @ticks",
+    "  %n = add i8 %v, 1",
+    "  store i8 %n, ptr @ticks",
+    "  ret void",
+    "}",
+];
+
+/// Both raise it by one.
+pub const COUNTS_TWICE: &[&str] = &[
+    "class State:",
+    "    ticks = Bits(8)",
+    "",
+    "def equiv(kernel, state):",
+    "    return state.ticks == kernel.ticks",
+    "",
+    "def tick(state):",
+    "    new = state.copy()",
+    "    new.ticks = state.ticks + 1",
+    "    return True, new",
+    "",
+    "def tock(state):",
+    "    new = state.copy()",
+    "    new.ticks = state.ticks + 1",
+    "    return True, new",
+];

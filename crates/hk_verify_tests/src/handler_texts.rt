@@ -28,6 +28,48 @@ pub const SQUARES: &[&str] = &[
 /// The square and the number.
 pub const IS_SQUARE_AND_MORE: &[&str] = &["def sq(state, x):", "    return True, state, x * x + x"];
 
+/// The same of a global, which takes it.
+pub const SQUARES_A_GLOBAL: &[&str] = &[
+    "@a = global i8 0",
+    "define i8 @sq() {",
+    "  %x = load i8, ptr @a",
+    "  %1 = add i8 %x, 1",
+    "  %2 = mul i8 %x, %1",
+    "  store i8 %2, ptr @a",
+    "  ret i8 %2",
+    "}",
+];
+
+/// The global, and its complement.
+pub const IS_SQUARED: &[&str] = &[
+    "class S:",
+    "    a = Bits(8)",
+    "    n = Bits(8)",
+    "def equiv(kernel, state):",
+    "    return And(state.a == kernel.a, state.n == ~kernel.a)",
+    "def sq(state):",
+    "    x = state.a",
+    "    new = state.copy()",
+    "    new.a = x * x + x",
+    "    new.n = ~(x * x + x)",
+    "    return True, new, x * x + x",
+];
+
+/// The same but for the complement behind one number.
+pub const IS_SQUARED_BUT_FOR_200: &[&str] = &[
+    "class S:",
+    "    a = Bits(8)",
+    "    n = Bits(8)",
+    "def equiv(kernel, state):",
+    "    return And(state.a == kernel.a, state.n == ~kernel.a)",
+    "def sq(state):",
+    "    x = state.a",
+    "    new = state.copy()",
+    "    new.a = x * x + x",
+    "    new.n = If(x == 200, 0, ~(x * x + x))",
+    "    return True, new, x * x + x",
+];
+
 /// A call of a declared function.
 pub const FLUSHES: &[&str] = &[
     "declare void @flush()",

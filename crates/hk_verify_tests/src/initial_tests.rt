@@ -1,7 +1,10 @@
 //! What is said of the initial memory: invariants over a kernel's globals, and properties over its abstraction.
 
 use crate::calls::{first_wrong, shows};
-use crate::initial_texts::{COMPARISONS, GLOBALS, NUMBERS, PATHS, PROPERTIES, QUANTIFIERS, WIDTHS};
+use crate::initial_texts::{
+    COMPARISONS, GLOBALS, LARGEST, NUMBERS, PATHS, PROPERTIES, QUANTIFIERS, TOO_LARGE, WIDTHS,
+};
+use crate::operator_texts::{OPERATORS, ORDERS, RESIZES};
 use std::alloc::{AllocError, Global};
 use std::test::Fail;
 
@@ -13,6 +16,40 @@ fn operators_have_their_values(rt: HostRuntime) -> Result<(), Fail> {
             (GLOBALS, NUMBERS, &["init holds"], 0),
             (GLOBALS, COMPARISONS, &["init holds"], 0),
             (GLOBALS, WIDTHS, &["init holds"], 0),
+        ],
+    )?;
+    assert_eq!(rt; wrong, None);
+    Ok(())
+}
+
+#[test]
+fn operators_of_several_widths_have_their_values(rt: HostRuntime) -> Result<(), Fail> {
+    let holds = shows(rt.alloc(), GLOBALS, OPERATORS, &["init holds"], 0)?;
+    assert!(rt; holds);
+    Ok(())
+}
+
+#[test]
+fn orders_of_several_widths_have_their_values(rt: HostRuntime) -> Result<(), Fail> {
+    let holds = shows(rt.alloc(), GLOBALS, ORDERS, &["init holds"], 0)?;
+    assert!(rt; holds);
+    Ok(())
+}
+
+#[test]
+fn resizes_and_parts_have_their_values(rt: HostRuntime) -> Result<(), Fail> {
+    let holds = shows(rt.alloc(), GLOBALS, RESIZES, &["init holds"], 0)?;
+    assert!(rt; holds);
+    Ok(())
+}
+
+#[test]
+fn the_largest_abstract_state_is_taken_and_no_larger_one(rt: HostRuntime) -> Result<(), Fail> {
+    let wrong = first_wrong(
+        &rt,
+        &[
+            (GLOBALS, LARGEST, &["init holds"], 0),
+            (GLOBALS, TOO_LARGE, &["spec 7: S12"], 3),
         ],
     )?;
     assert_eq!(rt; wrong, None);

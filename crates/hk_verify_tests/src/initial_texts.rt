@@ -155,3 +155,37 @@ pub const PROPERTIES: &[&str] = &[
     "    j = Var(A)",
     "    return Exists([i, j], state.t(i) + state.t(j) == state.b)",
 ];
+
+/// An abstract state of 2^22 entries, in four maps.
+pub const LARGEST: &[&str] = &[
+    "A = Index(16, 1024)",
+    "class S:",
+    "    a = Map((A, A), Bits(8))",
+    "    b = Map((A, A), Bits(8))",
+    "    c = Map((A, A), Bits(8))",
+    "    d = Map((A, A), Bits(8))",
+    "def equiv(kernel, state):",
+    "    i = Var(A)",
+    "    j = Var(A)",
+    "    return And(ForAll([i, j], state.a(i, j) == kernel.b), ForAll([i, j], state.b(i, j) == Extract(7, 0, i)),",
+    "        ForAll([i, j], state.c(i, j) == Extract(7, 0, j)), ForAll([i, j], state.d(i, j) == 9))",
+    "def prop_last(state):",
+    "    return And(state.a(0, 0) == 7, state.d(1023, 1023) == 9, state.d(1024, 0) == 0,",
+    "        state.b(1023, 0) == 255, state.c(1, 1022) == 254, state.c(1, 1024) == 0)",
+];
+
+/// One entry more.
+pub const TOO_LARGE: &[&str] = &[
+    "A = Index(16, 1024)",
+    "class S:",
+    "    a = Map((A, A), Bits(8))",
+    "    b = Map((A, A), Bits(8))",
+    "    c = Map((A, A), Bits(8))",
+    "    e = Bits(8)",
+    "    d = Map((A, A), Bits(8))",
+    "def equiv(kernel, state):",
+    "    i = Var(A)",
+    "    j = Var(A)",
+    "    return And(ForAll([i, j], state.a(i, j) == 0), ForAll([i, j], state.b(i, j) == 0),",
+    "        ForAll([i, j], state.c(i, j) == 0), state.e == 0, ForAll([i, j], state.d(i, j) == 0))",
+];

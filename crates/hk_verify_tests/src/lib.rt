@@ -11,6 +11,8 @@ mod bench_tests;
 #[cfg(test)]
 mod calls;
 #[cfg(test)]
+mod cert_tests;
+#[cfg(test)]
 mod clause_tests;
 #[cfg(test)]
 mod counter_texts;
@@ -30,6 +32,8 @@ mod lrat_tests;
 mod many_tests;
 #[cfg(test)]
 mod obligation_tests;
+#[cfg(test)]
+mod operator_texts;
 #[cfg(test)]
 mod option_tests;
 #[cfg(test)]

@@ -8,6 +8,9 @@ use std::test::Fail;
 /// A variable and its negation.
 const CONTRARY: &str = "p cnf 1 2\n1 0\n-1 0\n";
 
+/// The same in a list that declares more variables than memory holds marks for.
+const DECLARED: &str = "p cnf 1000000000 2\n1 0\n-1 0\n";
+
 const EITHER: &str = "p cnf 2 2\n1 2 0\n-1 0\n";
 
 /// Five pigeons in four holes: a hole for each pigeon, and none for two.
@@ -66,6 +69,12 @@ fn a_proof_refutes_or_is_refused_at_its_first_row(rt: HostRuntime) -> Result<(),
         (CONTRARY, "3 1 -1 0 0\n", "refused 1 L1\n", 1),
         (CONTRARY, "", "refused 0 L7\n", 1),
         (CONTRARY, "3 d 1 0\n4 0 1 2 0\n", "refused 2 L3\n", 1),
+        (DECLARED, "3 0 1 2 0\n", "refuted\n", 0),
+        (DECLARED, "3 7 0 2 0\n", "refused 1 L5\n", 1),
+        (DECLARED, "3 7 0 1 2 0\n4 0 1 2 0\n", "refuted\n", 0),
+        (DECLARED, "3 1000000001 0 1 2 0\n", "refused 1 L1\n", 1),
+        (DECLARED, "3 7 1000000001 0 1 2 0\n", "refused 1 L1\n", 1),
+        (DECLARED, "", "refused 0 L7\n", 1),
         // the whole proof is read before its first row is tried
         (CONTRARY, "3 0 9 0\nx\n", "refused 2 L1\n", 1),
         (PIGEONS, PIGEONS_PROOF, "refuted\n", 0),

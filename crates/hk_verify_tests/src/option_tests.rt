@@ -2,7 +2,9 @@
 
 use crate::calls::{first_wrong_by, shows_by};
 use crate::counter_texts::{COUNTER, COUNTS};
-use crate::handler_texts::{IS_SQUARE_AND_MORE, SQUARES};
+use crate::handler_texts::{
+    IS_SQUARE_AND_MORE, IS_SQUARED, IS_SQUARED_BUT_FOR_200, SQUARES, SQUARES_A_GLOBAL,
+};
 use std::test::Fail;
 
 /// Words that are no options.
@@ -36,7 +38,21 @@ fn few_cases_are_tried_after_a_spent_budget(rt: HostRuntime) -> Result<(), Fail>
     let wrong = first_wrong_by(
         &rt,
         &["--conflicts", "1"],
-        &[(SQUARES, IS_SQUARE_AND_MORE, &["init holds", "accept sq"], 0)],
+        &[
+            (SQUARES, IS_SQUARE_AND_MORE, &["init holds", "accept sq"], 0),
+            (
+                SQUARES_A_GLOBAL,
+                IS_SQUARED,
+                &["init holds", "accept sq"],
+                0,
+            ),
+            (
+                SQUARES_A_GLOBAL,
+                IS_SQUARED_BUT_FOR_200,
+                &["init holds", "reject sq state n", "  @a+0: c8"],
+                1,
+            ),
+        ],
     )?;
     assert_eq!(rt; wrong, None);
     Ok(())

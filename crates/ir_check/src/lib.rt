@@ -28,6 +28,3 @@ mod uses;
 
 pub use checked::{Checked, check};
 pub use order::PlaceList;
-
-#[cfg(test)]
-mod tests;

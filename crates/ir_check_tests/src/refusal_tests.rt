@@ -273,7 +273,7 @@ fn a_pointer_outside_slots_is_named(rt: HostRuntime) -> Result<(), AllocError> {
 
 #[test]
 fn arms_that_do_not_meet_the_edges_are_named(rt: HostRuntime) -> Result<(), AllocError> {
-    let table: [(&[u8], u32, u32); 9] = [
+    let table: [(&[u8], u32, u32); 12] = [
         (
             b"@a = global i8 0\n@b = global i8 0\ndefine void @swap(i1 %c) {\n%x = load i8, ptr @a\n%y = load i8, ptr @b\nbr i1 %c, label %t, label %j\nt:\nbr label %j\nj:\n%p = phi i8 [ %y, %t ]\n%q = phi i8 [ %x, %t ], [ %y, %0 ]\nstore i8 %p, ptr @a\nstore i8 %q, ptr @b\nret void\n}\n",
             10,
@@ -318,6 +318,21 @@ fn arms_that_do_not_meet_the_edges_are_named(rt: HostRuntime) -> Result<(), Allo
             b"define void @f(i1 %c) {\nbr i1 %c, label %j, label %j\nj:\n%p = phi i1 [ %c, %0 ], [ %c, %0 ]\nret void\n}\n",
             0,
             0,
+        ),
+        (
+            b"define void @f(i8 %x) {\nswitch i8 %x, label %j [\ni8 0, label %j\ni8 1, label %a\n]\na:\nbr label %j\nj:\n%p = phi i8 [ 1, %0 ], [ 2, %a ], [ 1, %0 ]\nret void\n}\n",
+            0,
+            0,
+        ),
+        (
+            b"define void @f(i8 %x) {\nswitch i8 %x, label %j [\ni8 0, label %j\ni8 1, label %a\n]\na:\nbr label %j\nj:\n%p = phi i8 [ 1, %0 ], [ 2, %a ], [ 2, %a ]\nret void\n}\n",
+            9,
+            15,
+        ),
+        (
+            b"define void @f(i8 %x) {\nswitch i8 %x, label %j [\ni8 0, label %j\ni8 1, label %a\n]\na:\nbr label %j\nj:\n%p = phi i8 [ 1, %0 ], [ 2, %a ]\nret void\n}\n",
+            9,
+            15,
         ),
     ];
     for (text, line, reason) in &table {

@@ -33,7 +33,7 @@ text_is k raw t is = ap (λ e. record { strays = t.strays; equated = e }) is
 
 -- of a text of the code, over a kernel
 abbrev pub text_at : Kernel → coded_text.Text → Text
-text_at k t = record { strays = strays_in k t.strays.items; equated = t.equated.items }
+text_at k t = record { strays = strays_in k t.strays.items; equated = t.equated }
 
 stops : (k : Kernel) (raw : List Line) (t : Text) (why : SpecStop) → AreStrays k (hooks_of raw) t.strays → t ≡ text_of t.strays k raw
     → Tells why (first_from t (begin k raw) raw) → IsStopped k raw why
@@ -41,7 +41,7 @@ stops k raw t (Refused f) are is told = record { strays = t.strays; are_strays =
 stops k raw t Memory are is told = tt
 
 pub stopped_by : (k : Kernel) (raw : List Line) (h : Here) (t : coded_text.Text) (why : SpecStop) → AreStrays k (hooks_of raw) (strays_in k t.strays.items)
-    → t.equated.items ≡ equated_from (begin k raw) raw → h ≡ begin k raw → Tells why (first_from (text_at h.scope.kernel t) h raw) → IsStopped k raw why
+    → t.equated ≡ equated_from (begin k raw) raw → h ≡ begin k raw → Tells why (first_from (text_at h.scope.kernel t) h raw) → IsStopped k raw why
 stopped_by k raw h t why are is begun told =
     stops k raw (text_at k t) why are (text_is k raw (text_at k t) is) (subst (λ g. Tells why (first_from (text_at g.scope.kernel t) g raw)) begun told)
 
@@ -51,7 +51,7 @@ counted k raw h heads begun are =
     sym (length-map heads seen_head) ∙ (ap length are ∙ (length-map h.scope.fields head_of ∙ ap (λ g. length g.scope.fields) begun))
 
 pub made_by : (k : Kernel) (raw : List Line) (h : Here) (t : coded_text.Text) (heads : List FieldHead) (made : Made) (count : ℕ)
-    → AreStrays k (hooks_of raw) (strays_in k t.strays.items) → t.equated.items ≡ equated_from (begin k raw) raw → h ≡ begin k raw
+    → AreStrays k (hooks_of raw) (strays_in k t.strays.items) → t.equated ≡ equated_from (begin k raw) raw → h ≡ begin k raw
     → AreHeadsOf h.scope.fields heads → first_from (text_at h.scope.kernel t) h raw ≡ None → made_from h nothing_made raw ≡ Some made
     → copies_stand h raw ≡ true → count ≡ length heads → IsMade k raw made count
 made_by k raw h t heads made count are is begun there stands gives copies few =

@@ -12,6 +12,7 @@ ghost use Rattle.spec_lines.specs.Whole.{hooks_of as hooks_in, equated_from as e
 
 use spec_ast::RawLine;
 use spec_kernel::KernelNames;
+use spec_lines::equated::Equated;
 use spec_lines::faults::Text;
 use spec_lines::fore::{FieldHead, Fore, fore_of};
 use spec_lines::here::{Here, start};
@@ -80,11 +81,12 @@ pub fn text_of<'s>(
     lines: &'s [RawLine],
 ) -> Result<Text, AllocError>
     ensures strays { IfOk result (λ t. AreStrays (kernel_in kernel.now) (hooks_in (view_lines lines.now)) (strays_in (kernel_in kernel.now) t.strays.items)) }
-    ensures equated { IfOk result (λ t. t.equated.items ≡ equated_in (definition.begin (kernel_in kernel.now) (view_lines lines.now)) (view_lines lines.now)) }
+    ensures equated { IfOk result (λ t. t.equated ≡ equated_in (definition.begin (kernel_in kernel.now) (view_lines lines.now)) (view_lines lines.now)) }
 {
     let hooks = hooks_of(alloc, lines)?;
     let strays = strays_of(alloc, kernel, hooks.as_slice())?;
     let mut begun = begin(alloc, kernel, lines)?;
-    let equated = equated_from(alloc, &mut begun.here, lines)?;
+    let places = equated_from(alloc, &mut begun.here, lines)?;
+    let equated = Equated::of(alloc, places)?;
     Ok(Text { strays, equated })
 }

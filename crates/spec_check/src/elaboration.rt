@@ -49,7 +49,7 @@ fn known_of<'s>(
     lines: &'s [RawLine],
 ) -> Result<Known<'s>, AllocError>
     ensures strays { IfOk result (λ n. AreStrays (kernel_in kernel.now) (lines_of.hooks_of (view_lines lines.now)) (strays_in (kernel_in kernel.now) n.text.strays.items)) }
-    ensures equated { IfOk result (λ n. n.text.equated.items ≡ lines_of.equated_from (behind.begin (kernel_in kernel.now) (view_lines lines.now)) (view_lines lines.now)) }
+    ensures equated { IfOk result (λ n. n.text.equated ≡ lines_of.equated_from (behind.begin (kernel_in kernel.now) (view_lines lines.now)) (view_lines lines.now)) }
     ensures here { IfOk result (λ n. view_here n.begun.here ≡ behind.begin (kernel_in kernel.now) (view_lines lines.now)) }
     ensures heads { IfOk result (λ n. AreHeadsOf n.begun.here.scope.fields n.begun.heads.items) }
 {

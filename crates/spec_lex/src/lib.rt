@@ -16,6 +16,3 @@ pub mod token;
 pub use lexer::lines;
 pub use line::{LogicalLine, LogicalLines};
 pub use token::{Token, TokenKind, TokenList};
-
-#[cfg(test)]
-mod tests;

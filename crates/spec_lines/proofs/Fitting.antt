@@ -7,13 +7,13 @@ use Rattle.spec_tree.specs.Sorted.{FieldSort}
 use Rattle.spec_read.specs.Places.{Function, equivalence, invariant, property, handler}
 use Rattle.spec_scope.specs.declared.meaning.Kind.{Kind}
 use Rattle.spec_scope.specs.declared.meaning.Kind.TheVariants.{Truth, Number}
-use Rattle.spec_scope.specs.Scope.{Scope, field_place, sort_at}
+use Rattle.spec_scope.specs.Scope.{Scope, field_place, sort_at, own}
 use Rattle.spec_scope.specs.Taking.{chain, one, take}
 use Rattle.spec_lines.specs.Sorts.{sort_for, key_for, field_sort_for}
 use Rattle.spec_lines.specs.Behind.{Here, kind_of, is_equivalence, is_handler, let_kind, skips}
-use Rattle.spec_lines.specs.Faults.{fits_let, fits_write, fits_result, fits_line, written_at, values_of, result_kind}
+use Rattle.spec_lines.specs.Faults.{fits_let, fits_write, fits_result, fits_line, fits_own, written_at, values_of}
 use Rattle.spec_lines.specs.Lines.{sorts_fit}
-use Rattle.spec_lines.specs.Whole.{Made, put_let, write_at, return_made, equivalence_made, with_invariant, with_property, result_made, end_made, made_behind}
+use Rattle.spec_lines.specs.Whole.{Made, put_let, write_at, return_made, equivalence_made, with_invariant, with_property, nothing_where, result_at, result_made, end_made, made_behind}
 
 some_of : {A B : Type 0} (f : A → B) (o : Option A) → is_some o ≡ is_some (one f o)
 some_of f None = refl
@@ -57,9 +57,17 @@ return_fits s m e (Some (invariant x)) = some_of (with_invariant x m) (take s []
 return_fits s m e (Some (property x)) = some_of (with_property x m) (take s [] Truth e)
 return_fits s m e (Some handler) = some_of (λ y. m) (take s [] Truth e)
 
+fitting : (b : Bool) → b ≡ is_some (nothing_where b)
+fitting true = refl
+fitting false = refl
+
+result_at_fits : (s : Scope) (w : Option ℕ) (r : Tree) → fits_result s w (Some r) ≡ is_some (result_at s w r)
+result_at_fits s None r = fitting (fits_own s (own s r) r)
+result_at_fits s (Some w) r = some_of Some (take s [] (Number w) r)
+
 result_fits : (h : Here) (r : Option Tree) → fits_result h.scope h.result r ≡ is_some (result_made h r)
 result_fits h None = refl
-result_fits h (Some r) = some_of Some (take h.scope [] (result_kind h.scope h.result r) r)
+result_fits h (Some r) = result_at_fits h.scope h.result r
 
 pub fits_where_made : (h : Here) (m : Made) (item : Item) → fits_line h item ≡ (sorts_fit h item && is_some (made_behind h m item))
 fits_where_made h m (sort_line x sort) = with_true (is_some (sort_for h.scope sort))

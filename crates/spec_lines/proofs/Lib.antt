@@ -5,6 +5,7 @@ mod Heads
 mod Trees
 mod Finding
 mod Results
+mod Tallies
 mod Texts
 mod Putting
 mod FieldTurns

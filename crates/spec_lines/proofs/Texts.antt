@@ -940,6 +940,51 @@ raw_void_result_any =
 is_void_result_any : first_fault no_strays ka raw_void_result_any ≡ Some (2, S11)
 is_void_result_any = refl
 
+-- constants that no width holds, where nothing is asked
+abbrev raw_void_constant : List Line
+raw_void_constant =
+    at 1 (constant_line (codes "N") (neg_ℤ (pos 18446744073709551615)))
+    ∷ at 2 (def_line (codes "tick") ((codes "state") ∷ []))
+    ∷ at 3 (end_line (truth true) (codes "state") (Some (named (codes "N")))) ∷ []
+
+is_void_constant : first_fault no_strays ka raw_void_constant ≡ Some (3, S11)
+is_void_constant = refl
+
+abbrev raw_void_sum : List Line
+raw_void_sum =
+    at 1 (constant_line (codes "N") (neg_ℤ (pos 9223372036854775809)))
+    ∷ at 2 (def_line (codes "tick") ((codes "state") ∷ []))
+    ∷ at 3 (end_line (truth true) (codes "state") (Some (binary Add (literal 1) (unary Minus (named (codes "N")))))) ∷ []
+
+is_void_sum : first_fault no_strays ka raw_void_sum ≡ Some (3, S11)
+is_void_sum = refl
+
+abbrev raw_void_choice : List Line
+raw_void_choice =
+    at 1 (constant_line (codes "N") (neg_ℤ (pos 9223372036854775809)))
+    ∷ at 2 (def_line (codes "tick") ((codes "state") ∷ []))
+    ∷ at 3 (end_line (truth true) (codes "state") (Some (choose (truth true) (named (codes "N")) (literal 2)))) ∷ []
+
+is_void_choice : first_fault no_strays ka raw_void_choice ≡ Some (3, S11)
+is_void_choice = refl
+
+abbrev raw_void_choice_unfit : List Line
+raw_void_choice_unfit =
+    at 1 (constant_line (codes "N") (neg_ℤ (pos 9223372036854775809)))
+    ∷ at 2 (def_line (codes "tick") ((codes "state") ∷ []))
+    ∷ at 3 (end_line (truth true) (codes "state") (Some (choose (literal 1) (named (codes "N")) (literal 2)))) ∷ []
+
+is_void_choice_unfit : first_fault no_strays ka raw_void_choice_unfit ≡ Some (3, S7)
+is_void_choice_unfit = refl
+
+abbrev raw_void_resized : List Line
+raw_void_resized =
+    at 1 (def_line (codes "tick") ((codes "state") ∷ []))
+    ∷ at 2 (end_line (truth true) (codes "state") (Some (binary Add (literal 1) (resize (ZeroExt 8) (literal 1))))) ∷ []
+
+is_void_resized : first_fault no_strays ka raw_void_resized ≡ Some (2, S7)
+is_void_resized = refl
+
 abbrev raw_fields_behind : List Line
 raw_fields_behind =
     at 1 (def_line (codes "equiv") ((codes "kernel") ∷ (codes "state") ∷ []))

@@ -5,12 +5,12 @@ use Rattle.spec_ast.specs.declared.raw.RawSort.{RawSort}
 use Rattle.spec_ast.specs.declared.raw.RawSort.TheVariants.{Named}
 use Rattle.spec_ast.specs.declared.fault.SpecReason.{SpecReason}
 use Rattle.spec_ast.specs.declared.fault.SpecReason.TheVariants.{S5, S6, S7, S8, S9, S10, S11, S12, S13, S14, S15}
-use Rattle.spec_ast.specs.Raw.{Tree, Trees, Item, sort_line, constant_line, hook_line, class_line, field_line, def_line, var_line, let_line, copy_line, write_line, return_line, end_line}
+use Rattle.spec_ast.specs.Raw.{Tree, literal, named, unary, binary, choose, Trees, Item, sort_line, constant_line, hook_line, class_line, field_line, def_line, var_line, let_line, copy_line, write_line, return_line, end_line}
 use Rattle.spec_ast.specs.Depth.{trees_on}
 use Rattle.spec_tree.specs.declared.expr.StateName.TheVariants.{New}
 use Rattle.spec_tree.specs.Plain as tree
 use Rattle.spec_tree.specs.Plain.{Key}
-use Rattle.spec_tree.specs.Sorted.{FieldSort}
+use Rattle.spec_tree.specs.Sorted.{FieldSort, class_of}
 use Rattle.spec_names.specs.Kernel.{Name, function_named}
 use Rattle.spec_kernel.specs.Handlers.{has_body_with, has_address, is_void_declared}
 use Rattle.spec_read.specs.Places.{function_of}
@@ -19,7 +19,7 @@ use Rattle.spec_scope.specs.declared.meaning.Kind.TheVariants.{Truth, Number}
 use Rattle.spec_scope.specs.declared.meaning.Meaning.{Meaning}
 use Rattle.spec_scope.specs.declared.meaning.Meaning.TheVariants.{Sort, State}
 use Rattle.spec_scope.specs.Scope.{Names, meaning_of, is_among, Scope, meaning, field_place, field_sort, own}
-use Rattle.spec_scope.specs.Takes.{index_kind}
+use Rattle.spec_scope.specs.Free.{is_constant, is_number_un, is_arithmetic}
 use Rattle.spec_scope.specs.Taking.{chain, one, take, take_keys, no_keys}
 use Rattle.spec_scope.specs.Tests.{somewhere, is_unknown, is_state, are_new, is_rebound, is_no_leaf, is_wide}
 use Rattle.spec_lines.specs.Sorts.{sort_for, key_for, field_sort_for, entries_of}
@@ -110,14 +110,26 @@ abbrev pub fits_write : Scope → Option FieldSort → Option Trees → Tree →
 fits_write s None at e = false
 fits_write s (Some sort) at e = is_some (written_at s sort.keys at) && fits s [] (Number sort.width) e
 
--- the kind that the place of a handler's result asks for: in a void handler the result's own, or 64 bits
-abbrev pub result_kind : Scope → Option ℕ → Tree → Kind
-result_kind s None r = index_kind (own s r)
-result_kind s (Some w) r = Number w
+-- what has no width of its own, at a place that asks nothing: a number or a constant of any size, and an operator of such parts. What is
+-- inside is looked at as elsewhere
+abbrev pub fits_freely : Scope → Tree → Bool
+fits_freely s (literal n) = true
+fits_freely s (named x) = is_constant (meaning s x)
+fits_freely s (unary op a) = is_number_un op && fits_freely s a
+fits_freely s (binary op a c) = is_arithmetic (class_of op) && fits_freely s a && fits_freely s c
+fits_freely s (choose c a d) = fits s [] Truth c && fits_freely s a && fits_freely s d
+fits_freely s _ = false
 
+-- an expression that has this kind of its own, at a place that asks nothing
+abbrev pub fits_own : Scope → Option Kind → Tree → Bool
+fits_own s None e = fits_freely s e
+fits_own s (Some kind) e = fits s [] kind e
+
+-- the result of a handler; the place of a result asks nothing where the kernel's function is void
 abbrev pub fits_result : Scope → Option ℕ → Option Tree → Bool
 fits_result s w None = true
-fits_result s w (Some r) = fits s [] (result_kind s w r) r
+fits_result s None (Some r) = fits_own s (own s r) r
+fits_result s (Some w) (Some r) = fits s [] (Number w) r
 
 abbrev pub width_in : Option FieldSort → ℕ
 width_in None = 0

@@ -1,6 +1,7 @@
 pub mod Sorts
 pub mod Behind
 pub mod Equations
+pub mod Times
 pub mod Faults
 pub mod Whole
 pub mod View

@@ -83,4 +83,4 @@ view_equation q =
     record { variables = q.variables.now; owner = q.owner.now; field = q.field.now; arguments = map view_expr q.arguments.now; right = view_expr q.right.now }
 
 abbrev pub view_text : Seen → Text → faults.Text
-view_text k t = record { strays = strays_in (kernel_in k) t.strays.items; equated = t.equated.items }
+view_text k t = record { strays = strays_in (kernel_in k) t.strays.items; equated = t.equated }

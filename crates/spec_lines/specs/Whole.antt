@@ -9,11 +9,11 @@ use Rattle.spec_names.specs.Kernel.{Name, Kernel, function_named}
 use Rattle.spec_kernel.specs.Strays.{ReachesStray}
 use Rattle.spec_read.specs.Places.{Function, equivalence, invariant, property}
 use Rattle.spec_scope.specs.declared.meaning.Kind.TheVariants.{Truth, Number}
-use Rattle.spec_scope.specs.Scope.{Declared, Scope, meaning, field_place, field_sort}
+use Rattle.spec_scope.specs.Scope.{Declared, Scope, meaning, field_place, field_sort, own}
 use Rattle.spec_scope.specs.Taking.{chain, one, take}
 use Rattle.spec_lines.specs.Behind.{Head, Here, kind_of, is_equivalence, is_handler, width_of_type, types_of, let_kind, skips, behind, begin}
 use Rattle.spec_lines.specs.Equations.{conjuncts, equated_by}
-use Rattle.spec_lines.specs.Faults.{Text, is_new, written_at, result_kind, Values, values_of, fault_of}
+use Rattle.spec_lines.specs.Faults.{Text, is_new, written_at, fits_own, Values, values_of, fault_of}
 
 -- ---- the text
 
@@ -137,9 +137,18 @@ sorted_write s m f at e sort =
 abbrev pub written : Scope → Made → Name → Option Trees → Tree → Option Made
 written s m f at e = chain (field_sort s f) (sorted_write s m f at e)
 
+-- nothing, where it fits
+abbrev pub nothing_where : Bool → Option (Option tree.Tree)
+nothing_where fits = if fits then Some None else None
+
+-- the result of a handler whose kernel function has one of this width; one of a void handler, which is a fault of its line, gives nothing
+abbrev pub result_at : Scope → Option ℕ → Tree → Option (Option tree.Tree)
+result_at s None r = nothing_where (fits_own s (own s r) r)
+result_at s (Some w) r = one Some (take s [] (Number w) r)
+
 abbrev pub result_made : Here → Option Tree → Option (Option tree.Tree)
 result_made h None = Some None
-result_made h (Some r) = one Some (take h.scope [] (result_kind h.scope h.result r) r)
+result_made h (Some r) = result_at h.scope h.result r
 
 abbrev pub result_width : Option ℕ → ℕ
 result_width None = 0

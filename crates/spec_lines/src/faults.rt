@@ -1,6 +1,6 @@
 //! Why a line is refused.
 
-ghost use Rattle.std.specs.Prelude.{◌≡◌, ◌≤◌, ◌||◌, false, [], slice_index_or, count_by, is_none, IfOk};
+ghost use Rattle.std.specs.Prelude.{◌≡◌, ◌≤◌, ◌||◌, false, [], slice_index_or, is_none, IfOk};
 ghost use Rattle.std.specs.List.{list_any};
 ghost use Rattle.spec_ast.specs.View.{view_expr, view_item};
 ghost use Rattle.spec_kernel.specs.Seen.{kernel_in};
@@ -14,6 +14,7 @@ ghost use Rattle.spec_lines.specs.Faults as definition;
 ghost use Rattle.spec_lines.specs.Lines as lines;
 ghost use Rattle.spec_lines.specs.View.{view_here, view_text};
 
+use crate::equated::Equated;
 use crate::equation::{equated_by, is_old};
 use crate::function::function_of;
 use crate::here::{Here, is_equivalence, is_handler};
@@ -198,39 +199,16 @@ pub fn early(
 pub struct Text {
     /// By the place of each function of the kernel, whether it comes to a declared one that is neither a listed intrinsic nor a hook.
     pub strays: Vec<bool>,
-    /// Of each conjunct of the equivalence function, the place of the field that it is an equation of.
-    pub equated: Vec<Option<u32>>,
-}
-
-/// Whether it is this place.
-fn is_place(place: u32, other: &Option<u32>) -> bool
-    ensures { result ≡ equations.is_place place other.now }
-{
-    match other {
-        Some(other) => place == *other,
-        None => false,
-    }
-}
-
-/// How often a place stands there.
-fn count(place: u32, equated: &[Option<u32>]) -> usize
-    ensures { result ≡ count_by (equations.is_place place) equated.now }
-{
-    let mut count = 0;
-    'each: for other in equated {
-        if is_place(place, other) {
-            count += 1;
-        }
-    }
-    count
+    /// What the conjuncts of the equivalence function equate.
+    pub equated: Equated,
 }
 
 /// Whether a field has exactly one equation.
-fn is_once(place: Option<u32>, equated: &[Option<u32>]) -> bool
+fn is_once(place: Option<u32>, equated: &Equated) -> bool
     ensures { result ≡ equations.is_once place equated.now }
 {
     match place {
-        Some(place) => count(place, equated) == 1,
+        Some(place) => equated.is_once(place),
         None => false,
     }
 }
@@ -264,10 +242,8 @@ fn is_s9(alloc: Global, text: &Text, here: &Here<'_>, item: &RawItem) -> Result<
 {
     match item {
         RawItem::Field(name, _, _) => {
-            Ok(!is_once(
-                here.scope.fields.place(name.as_bytes()),
-                text.equated.as_slice(),
-            ))
+            let place = here.scope.fields.place(name.as_bytes());
+            Ok(!is_once(place, &text.equated))
         }
         RawItem::Return(e) => is_no_equation(alloc, here, e),
         _ => Ok(false),

@@ -2,6 +2,8 @@
 //! specification stands for.
 #![tactic(auto)]
 
+pub mod ends;
+pub mod equated;
 pub mod equation;
 pub mod faults;
 pub mod fields;

@@ -7,8 +7,6 @@ ghost use Rattle.spec_tree.specs.Plain as tree;
 ghost use Rattle.spec_kernel.specs.Seen.{view_value};
 ghost use Rattle.spec_scope.specs.declared.meaning.Kind.TheVariants.{Truth};
 ghost use Rattle.spec_scope.specs.Fields.{view_sort};
-ghost use Rattle.spec_scope.specs.Scope as scopes;
-ghost use Rattle.spec_scope.specs.Takes.{index_kind};
 ghost use Rattle.spec_scope.specs.Taking as taking;
 ghost use Rattle.spec_scope.specs.View.{view_scope};
 ghost use Rattle.spec_take.specs.Answers.{Gives};
@@ -18,6 +16,7 @@ ghost use Rattle.spec_lines.specs.Whole as definition;
 ghost use Rattle.spec_lines.specs.View.{view_here, view_kind, view_head, AreHeadsOf};
 ghost use Rattle.spec_lines.specs.MadeView.{view_made, view_values, Makes};
 
+use crate::ends::result_made;
 use crate::equation::field_sort;
 use crate::faults::is_new;
 use crate::fields::fields_from;
@@ -29,7 +28,7 @@ use crate::values::values_of;
 use spec_ast::{Name, RawExpr, RawExprs, RawItem};
 use spec_kernel::ValueType;
 use spec_scope::{BoundNames, FieldSort, FieldTable, Kind, Scope, TakeStop};
-use spec_take::{OwnKind, indices, own, take};
+use spec_take::{indices, take};
 use spec_tree::{
     Body, Expr, ExprList, Field, Line, LineList, Named, SizeList, Sort, Transition, Write,
 };
@@ -252,45 +251,6 @@ impl Made {
         let named = named_with(alloc, name, locals, value)?;
         self.properties.push(named)?;
         Ok(())
-    }
-}
-
-/// The result of a transition.
-fn result_made(
-    alloc: Global,
-    here: &Here<'_>,
-    r: &Option<RawExpr>,
-) -> Result<Option<Expr>, TakeStop>
-    ensures { Gives (option_map view_expr) result (definition.result_made (view_here here.now) (option_map view_raw r.now)) }
-{
-    match r {
-        Some(r) => {
-            let y = taken_result(alloc, here, r)?;
-            Ok(Some(y))
-        }
-        None => Ok(None),
-    }
-}
-
-/// What the result of a transition stands for.
-fn taken_result(alloc: Global, here: &Here<'_>, r: &RawExpr) -> Result<Expr, TakeStop>
-    ensures { Gives view_expr result (taking.take (view_scope here.now.scope) [] (faults.result_kind (view_scope here.now.scope) here.now.result (view_raw r.now)) (view_raw r.now)) }
-{
-    match here.result {
-        Some(width) => take_alone(alloc, &here.scope, Kind::Number(width), r),
-        None => taken_freely(alloc, &here.scope, r),
-    }
-}
-
-/// What an expression stands for where its own kind is asked for, or 64 bits.
-#[tactic(auto, using(crate::proofs::Results::absent_at, crate::proofs::Results::known_at, crate::proofs::Results::void_at))]
-fn taken_freely(alloc: Global, scope: &Scope<'_>, r: &RawExpr) -> Result<Expr, TakeStop>
-    ensures { Gives view_expr result (taking.take (view_scope scope.now) [] (index_kind (scopes.own (view_scope scope.now) (view_raw r.now))) (view_raw r.now)) }
-{
-    match own(scope, r) {
-        OwnKind::Absent => take_alone(alloc, scope, Kind::Number(64), r),
-        OwnKind::Known(kind) => take_alone(alloc, scope, kind, r),
-        OwnKind::TooWide => Err(TakeStop::Unfit),
     }
 }
 

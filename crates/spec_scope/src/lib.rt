@@ -23,6 +23,3 @@ pub use scoped::Scope;
 pub use sorts::{FieldRow, FieldSort};
 pub use table::NameTable;
 pub use typed::{Pair, Reached, ReadAt, TakeStop, Typed};
-
-#[cfg(test)]
-mod tests;

@@ -1,5 +1,5 @@
 -- The return line of a handler: what it adds is well sorted.
-use Rattle.std.proofs.Common.{◌≡◌, ℕ, ◌≤◌, inl, Bool, true, false, is_none, Option, Some, None, List, [], refl, sym, ap, subst, ◌∙◌, arith}
+use Rattle.std.proofs.Common.{◌≡◌, ℕ, ◌≤◌, inl, Bool, true, false, is_none, Option, Some, None, List, [], refl, subst, arith}
 use Rattle.spec_ast.specs.declared.fault.SpecReason.TheVariants.{S11}
 use Rattle.spec_ast.specs.Raw.{Tree, end_line}
 use Rattle.spec_tree.specs.Plain as tree
@@ -11,9 +11,9 @@ use Rattle.spec_scope.specs.declared.meaning.Kind.TheVariants.{Truth, Number}
 use Rattle.spec_scope.specs.Taking.{one, take}
 use Rattle.spec_scope.specs.Tests.{somewhere, is_wide}
 use Rattle.spec_lines.specs.Behind.{Head, Here, is_handler}
-use Rattle.spec_lines.specs.Faults.{Text, result_kind}
+use Rattle.spec_lines.specs.Faults.{Text}
 use Rattle.spec_lines.specs.Laws.{Stands}
-use Rattle.spec_lines.specs.Whole.{Made, result_made, result_width, transition_with, with_transition, head_made, end_made, ended}
+use Rattle.spec_lines.specs.Whole.{Made, result_at, result_made, result_width, transition_with, with_transition, head_made, end_made, ended}
 use Rattle.spec_sound.proofs.Parts.{no, not_so, chain_is, one_is, some_is}
 use Rattle.spec_sound.proofs.Bodies.{step_over, HasWidth, InHandler, InBody, InHead, widths_of}
 use Rattle.spec_sound.proofs.Lets.{Known, matching}
@@ -25,24 +25,20 @@ module _ (F : List FieldSort) (O : List ℕ) (t : Text) (h : Here) (known : Know
   given_width None is = omega arith
   given_width (Some w) is = is.1
 
-  some_width : (o : Option ℕ) → is_none o ≡ false → HasWidth o → IsWidth (result_width o)
-  some_width None e is = absurd (not_so e)
-  some_width (Some w) e is = is
-
-  kind_is : (r : Tree) (o : Option ℕ) → is_none o ≡ false → result_kind h.scope o r ≡ Number (result_width o)
-  kind_is r None e = absurd (not_so e)
-  kind_is r (Some w) e = refl
+  at_width : (c : Context) (e : Tree) (x : Name) (r : Tree) (w : Option ℕ) (o : Option tree.Tree) → Stands t h (end_line e x (Some r)) → is_none w ≡ false
+      → HasWidth w → ((z : Tree) (y : tree.Tree) (v : ℕ) → IsWidth v → somewhere (is_wide h.scope) [] z ≡ false → take h.scope [] (Number v) z ≡ Some y → IsSorted c y × (width_of c y ≡ v))
+      → result_at h.scope w r ≡ Some o → IsResult c (result_width w) o
+  at_width c e x r None o stands some wide taken made = absurd (not_so some)
+  at_width c e x r (Some v) o stands some wide taken made =
+      let p = one_is Some (take h.scope [] (Number v) r) o made in
+      let q = taken r p.0 v wide (result_narrow t h e x r stands) p.1 in
+      subst (IsResult c v) p.2 (wide, q.0, q.1)
 
   result_sorted : (c : Context) (e : Tree) (x : Name) (r : Option Tree) (o : Option tree.Tree) → Stands t h (end_line e x r) → HasWidth h.result
       → ((z : Tree) (y : tree.Tree) (w : ℕ) → IsWidth w → somewhere (is_wide h.scope) [] z ≡ false → take h.scope [] (Number w) z ≡ Some y → IsSorted c y × (width_of c y ≡ w))
       → result_made h r ≡ Some o → IsResult c (result_width h.result) o
   result_sorted c e x None o stands wide taken made = subst (IsResult c (result_width h.result)) (some_is None o made) (given_width h.result wide)
-  result_sorted c e x (Some r) o stands wide taken made =
-      let p = one_is Some (take h.scope [] (result_kind h.scope h.result r) r) o made in
-      let some : is_none h.result ≡ false = stands S11 in
-      let w = some_width h.result some wide in
-      let q = taken r p.0 (result_width h.result) w (result_narrow t h e x r stands) (sym (ap (λ k. take h.scope [] k r) (kind_is r h.result some)) ∙ p.1) in
-      subst (IsResult c (result_width h.result)) p.2 (w, q.0, q.1)
+  result_sorted c e x (Some r) o stands wide taken made = at_width c e x r h.result o stands (stands S11) wide taken made
 
   step_sorted : (m : Made) (e : Tree) (x : Name) (r : Option Tree) (head : Head) (place : ℕ) (valid : tree.Tree) (result : Option tree.Tree) → Stands t h (end_line e x r)
       → InHandler F O (widths_of h.scope.kernel head.name) h.result h.scope.inner h.lets m.lines → take h.scope [] Truth e ≡ Some valid → result_made h r ≡ Some result

@@ -12,8 +12,12 @@ mod expr_tests;
 #[cfg(test)]
 mod item_tests;
 #[cfg(test)]
+mod lex_tests;
+#[cfg(test)]
 mod line_tests;
 #[cfg(test)]
 mod place_tests;
 #[cfg(test)]
 mod row_tests;
+#[cfg(test)]
+mod spelling_tests;

@@ -2,7 +2,7 @@ use Rattle.std.proofs.Common.{[], length, ap, sym, subst, ◌∙◌, arith}
 use Rattle.ir_ast.specs.ProgramView.{view_module}
 use Rattle.hk_symmem.specs.Origins.{AreOriginsOf}
 use Rattle.spec_tree.specs.View.{view_spec, view_transition}
-use Rattle.hk_check.proofs.Turns.{there_is, none_first, owed_at, few_at, shown_more, all_shown, refused_at, no_such_at}
+use Rattle.hk_check.proofs.Turns.{there_is, none_first, owed_at, few_at, shown_more, all_shown, refused_at, violated_at, no_such_at}
 use Rattle.hk_check.proofs.checking.check.Goals as goal
 
 pub each-init : goal.each-init
@@ -32,8 +32,16 @@ pub returns-in-Refused : goal.returns-in-Refused
 returns-in-Refused c = record {
   told = λ l t laid found.
       refused_at (view_module c.args.kernel.now) l.objects (view_spec c.args.spec.now) t c.as_slice-owed.result.now c.as_slice-given.result.now c.args.proofs.now
-      (c.as_slice-owed.ensures ∙ c.in_ok-list.ensures t found) c.as_slice-given.ensures (c.requires.count t found) c.each.place _ _ c.in_ok-try_proof.field-0 c.in-Refused.row c.in-Refused.reason c.each-test.true
+      (c.as_slice-owed.ensures ∙ c.in_ok-list.ensures t found) c.as_slice-given.ensures (c.requires.count t found) c.each.place _ _ c.in_ok-try_proof.field-0 _ c.in-Refused.row c.in-Refused.reason c.each-test.true
       (c.each.invariant.shown l t laid found) (c.proof_at-proof.ensures _) c.in-Refused.is (c.in_ok-try_proof.ensures.tried l t laid found);
+}
+
+pub returns-in-Violated : goal.returns-in-Violated
+returns-in-Violated c = record {
+  told = λ l t laid found.
+      violated_at (view_module c.args.kernel.now) l.objects (view_spec c.args.spec.now) t c.as_slice-owed.result.now c.as_slice-given.result.now c.args.proofs.now
+      (c.as_slice-owed.ensures ∙ c.in_ok-list.ensures t found) c.as_slice-given.ensures (c.requires.count t found) c.each.place _ _ c.in_ok-try_proof.field-0 _ c.each-test.true
+      (c.each.invariant.shown l t laid found) (c.proof_at-proof.ensures _) c.in-Violated.is (c.in_ok-try_proof.ensures.tried l t laid found);
 }
 
 pub returns-in-NoSuch : goal.returns-in-NoSuch

@@ -1,10 +1,11 @@
-use Rattle.std.proofs.Common.{◌≡◌, ◌∙◌, ℕ, ◌≤◌, Some, length, arith, sym, subst, ap}
+use Rattle.std.proofs.Common.{◌≡◌, ◌∙◌, ℕ, ◌≤◌, Some, length, map, arith, sym, subst, ap}
 use Rattle.std.specs.List.{All}
 use Rattle.std.specs.Prelude.{slice_get}
 use Rattle.std.proofs.lemmas.Option.{slice_get-get_or}
-use Rattle.hk_inst.specs.Inputs.{number_in}
+use Rattle.hk_inst.specs.Inputs.{number_in, entry_number}
 use Rattle.hk_inst.specs.States.{asked_of}
 use Rattle.hk_inst.specs.Violations.{AgreesWithFirst}
+use Rattle.hk_inst.specs.ReadNumbers.{numbers_at}
 use Rattle.hk_inst.proofs.FirstReads.{pair-violated, agree-more, agree-all}
 use Rattle.hk_inst.proofs.clash.clashes.Goals as goal
 
@@ -26,3 +27,12 @@ returns-clause-none c = λ e.
     let past : length c.as_slice-reads.result.now ≤ c.loop-k.k = omega (arith, c.loop-k-test.false) in
     subst (All (AgreesWithFirst q.nodes f q.table.reads)) c.as_slice-reads.ensures.value
     (agree-all (AgreesWithFirst q.nodes f q.table.reads) c.as_slice-reads.result.now c.loop-k.k past (c.loop-k.invariant.none e))
+
+pub returns-then-all_agree-clause-none : goal.returns-then-all_agree-clause-none
+returns-then-all_agree-clause-none c = λ e.
+    let f : ℕ → ℕ = number_in c.args.s.now.bits c.args.values.now in
+    let reads = c.as_slice-reads.result.now in
+    subst (All (AgreesWithFirst c.args.s.now.terms f c.args.s.now.reads.items)) c.as_slice-reads.ensures.value
+    (subst (λ rs. All (AgreesWithFirst c.args.s.now.terms f rs) reads) c.as_slice-reads.ensures.value
+    (c.all_agree.ensures c.if-all_agree.true f (c.requires.numbers ∙ ap (map (numbers_at c.args.s.now.terms f)) (sym c.as_slice-reads.ensures.value))
+    (λ array place. c.requires.arrays array place ∙ ap (λ rs. entry_number c.args.s.now.terms f rs array place) (sym c.as_slice-reads.ensures.value))))

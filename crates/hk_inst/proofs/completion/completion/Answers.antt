@@ -19,13 +19,16 @@ variables-requires-clause-within c = λ k.
     subst (λ n. All (IsWithin n) (word_in c.args.s.now.bits k)) (sym (ap length c.as_slice-values.ensures ∙ c.requires.size))
     (words-within c.args.s.now.terms c.args.s.now.gates c.args.s.now.bits c.requires.kept.growing.base.blasted k)
 
-pub entries-requires-clause-there : goal.entries-requires-clause-there
-entries-requires-clause-there c = subst (All (λ t. t < length c.args.s.now.terms)) (sym c.as_slice.ensures.value) (reads-within c.args.s.now c.requires.kept)
+pub read_numbers-requires-clause-there : goal.read_numbers-requires-clause-there
+read_numbers-requires-clause-there c = subst (All (λ t. t < length c.args.s.now.terms)) (sym c.as_slice-reads.ensures.value) (reads-within c.args.s.now c.requires.kept)
 
-pub entries-requires-clause-short : goal.entries-requires-clause-short
-entries-requires-clause-short c = words-short c.args.s.now.terms c.args.s.now.gates c.args.s.now.bits c.requires.kept.growing.base.blasted
+pub read_numbers-requires-clause-short : goal.read_numbers-requires-clause-short
+read_numbers-requires-clause-short c = words-short c.args.s.now.terms c.args.s.now.gates c.args.s.now.bits c.requires.kept.growing.base.blasted
 
-pub entries-requires-clause-within : goal.entries-requires-clause-within
-entries-requires-clause-within c = λ k.
+pub read_numbers-requires-clause-within : goal.read_numbers-requires-clause-within
+read_numbers-requires-clause-within c = λ k.
     subst (λ n. All (IsWithin n) (word_in c.args.s.now.bits k)) (sym (ap length c.as_slice-values.ensures ∙ c.requires.size))
     (words-within c.args.s.now.terms c.args.s.now.gates c.args.s.now.bits c.requires.kept.growing.base.blasted k)
+
+pub entries-requires-clause-there : goal.entries-requires-clause-there
+entries-requires-clause-there c = subst (All (λ t. t < length c.args.s.now.terms)) (sym c.as_slice-reads.ensures.value) (reads-within c.args.s.now c.requires.kept)

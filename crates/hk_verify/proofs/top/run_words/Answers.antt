@@ -11,7 +11,10 @@ pub returns-in-None-clause-ran : goal.returns-in-None-clause-ran
 returns-in-None-clause-ran g c = λ kernel function arguments is. absurd (c.in-None.ensures.none kernel function arguments is)
 
 pub returns-in-None-clause-meaning : goal.returns-in-None-clause-meaning
-returns-in-None-clause-meaning g c = λ kernel spec budget is. absurd (c.in_default.ensures.none kernel spec budget is)
+returns-in-None-clause-meaning g c = λ kernel spec budget is. absurd (c.in_default-behind_verify.ensures.none kernel spec budget is)
+
+pub returns-in-None-clause-certified : goal.returns-in-None-clause-certified
+returns-in-None-clause-certified g c = λ kernel spec budget cert is. absurd (c.in_default.ensures.none kernel spec budget cert is)
 
 pub returns-in-Some-behind_run-clause-counted : goal.returns-in-Some-behind_run-clause-counted
 returns-in-Some-behind_run-clause-counted g c = λ n is. absurd (c.in_default-behind_bench.ensures.none n is)

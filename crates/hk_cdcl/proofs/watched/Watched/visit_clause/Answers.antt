@@ -1,8 +1,9 @@
-use Rattle.std.proofs.Common.{◌≡◌, ◌<◌, true, false, List, ℤ, length, ap, sym, ◌∙◌, subst}
-use Rattle.hk_cnf.specs.Literal.{IsWithin, has}
-use Rattle.hk_cdcl.specs.Watching.{clause_no, pair_at, IsOtherOf, IsOther}
+use Rattle.std.proofs.Common.{◌≡◌, true, false, List, ℤ, sym, ◌∙◌, subst}
+use Rattle.hk_cnf.specs.Literal.{has}
+use Rattle.hk_cdcl.specs.Watching.{clause_no, pair_at, IsOther, IsOtherOf}
 use Rattle.hk_cdcl.proofs.Extending.{extends-refl}
-use Rattle.hk_cdcl.proofs.Moving.{read-inside, read-inside-all, read-other, other-within, visited-settled, turning-stays, turning-goes, moves-of, code-inside, pair-read}
+use Rattle.hk_cdcl.proofs.Moving.{read-inside-all, other-within, visited-settled}
+use Rattle.hk_cdcl.proofs.Blocking.{Blocked, blocked-of, other-read, other-read-member, turning-blocked, clause-blocked, stays-blocked, moves-blocked, left-other}
 use Rattle.hk_cdcl.proofs.watched.Watched.visit_clause.Goals as goal
 
 pub returns-in_default-clause-extends : goal.returns-in_default-clause-extends
@@ -10,55 +11,51 @@ returns-in_default-clause-extends c = extends-refl c.args.clauses.now.clauses c.
 
 pub holds-requires : goal.holds-requires
 holds-requires c =
-    let k : c.args.clause < length c.args.self.now.pairs.items = read-inside c.args.clauses.now.clauses c.args.self.now c.args.trail.now c.args.head c.args.lit c.args.place c.args.clause c.requires.turning c.requires.place c.requires.clause in
-    let o : IsOtherOf (pair_at c.args.self.now.pairs.items c.args.clause) c.args.lit c.in-Some.other = subst (λ p. IsOtherOf p c.args.lit c.in-Some.other) (pair-read c.args.self.now.pairs.items c.args.clause c.index.result.now c.index.ensures k) c.in-Some.ensures in
-    let m : has (clause_no c.args.clauses.now.clauses c.args.clause) c.in-Some.other ≡ true = read-other c.args.clauses.now.clauses c.args.self.now c.args.trail.now c.args.head c.args.lit c.args.place c.args.clause c.in-Some.other c.requires.turning k o in
-    other-within c.args.clauses.now.clauses c.args.clauses.now.vars c.args.clause c.args.trail.now c.in-Some.other c.requires.vars c.len-within.ensures.within
-    (read-inside-all c.args.clauses.now.clauses c.args.self.now c.args.trail.now c.args.head c.args.lit c.args.place c.args.clause c.requires.turning c.requires.place c.requires.clause) m
+    let o : IsOtherOf (pair_at c.args.self.now.pairs.items c.args.watch.clause) c.args.lit c.in-Some.other = other-read c.args.clauses.now.clauses c.args.self.now c.args.trail.now c.args.head c.args.lit c.args.place c.args.watch.clause c.in-Some.other c.index.result.now c.requires.turning c.requires.place c.requires.clause c.index.ensures c.in-Some.ensures in
+    let m : has (clause_no c.args.clauses.now.clauses c.args.watch.clause) c.in-Some.other ≡ true = other-read-member c.args.clauses.now.clauses c.args.self.now c.args.trail.now c.args.head c.args.lit c.args.place c.args.watch.clause c.in-Some.other c.requires.turning c.requires.place c.requires.clause o in
+    other-within c.args.clauses.now.clauses c.args.clauses.now.vars c.args.watch.clause c.args.trail.now c.in-Some.other c.requires.vars c.len-within.ensures.within (read-inside-all c.args.clauses.now.clauses c.args.self.now c.args.trail.now c.args.head c.args.lit c.args.place c.args.watch.clause c.requires.turning c.requires.place c.requires.clause) m
 
 pub returns-then-holds-clause-extends : goal.returns-then-holds-clause-extends
 returns-then-holds-clause-extends c = extends-refl c.args.clauses.now.clauses c.args.trail.now
 
-pub returns-then-rewatch-clause-extends : goal.returns-then-rewatch-clause-extends
-returns-then-rewatch-clause-extends c = extends-refl c.args.clauses.now.clauses c.args.trail.now
-
-pub returns-else-rewatch-clause-extends : goal.returns-else-rewatch-clause-extends
-returns-else-rewatch-clause-extends c = extends-refl c.args.clauses.now.clauses c.args.trail.now
-
 pub returns-then-holds-clause-visited : goal.returns-then-holds-clause-visited
 returns-then-holds-clause-visited c =
-    let k : c.args.clause < length c.args.self.now.pairs.items = read-inside c.args.clauses.now.clauses c.args.self.now c.args.trail.now c.args.head c.args.lit c.args.place c.args.clause c.requires.turning c.requires.place c.requires.clause in
-    let o : IsOtherOf (pair_at c.args.self.now.pairs.items c.args.clause) c.args.lit c.in-Some.other = subst (λ p. IsOtherOf p c.args.lit c.in-Some.other) (pair-read c.args.self.now.pairs.items c.args.clause c.index.result.now c.index.ensures k) c.in-Some.ensures in
-    let m : has (clause_no c.args.clauses.now.clauses c.args.clause) c.in-Some.other ≡ true = read-other c.args.clauses.now.clauses c.args.self.now c.args.trail.now c.args.head c.args.lit c.args.place c.args.clause c.in-Some.other c.requires.turning k o in
-    turning-stays c.args.clauses.now.clauses c.args.self.now c.args.trail.now c.args.head c.args.lit c.args.place c.requires.turning
-    (record { literal = c.in-Some.other; member = ap (λ i. has (clause_no c.args.clauses.now.clauses i) c.in-Some.other) c.requires.clause ∙ m; holds = sym c.holds.ensures ∙ c.if-holds.true })
+    let o : IsOtherOf (pair_at c.args.self.now.pairs.items c.args.watch.clause) c.args.lit c.in-Some.other = other-read c.args.clauses.now.clauses c.args.self.now c.args.trail.now c.args.head c.args.lit c.args.place c.args.watch.clause c.in-Some.other c.index.result.now c.requires.turning c.requires.place c.requires.clause c.index.ensures c.in-Some.ensures in
+    let m : has (clause_no c.args.clauses.now.clauses c.args.watch.clause) c.in-Some.other ≡ true = other-read-member c.args.clauses.now.clauses c.args.self.now c.args.trail.now c.args.head c.args.lit c.args.place c.args.watch.clause c.in-Some.other c.requires.turning c.requires.place c.requires.clause o in
+    let b : Blocked c.args.clauses.now.clauses c.args.self.now c.block.new.self c.args.lit c.args.place c.args.watch.clause (record { blocker = c.in-Some.other; clause = c.args.watch.clause; resume = c.args.watch.resume; binary = false }) =
+    blocked-of c.args.clauses.now.clauses c.args.self.now c.block.new.self c.args.trail.now c.args.head c.args.lit c.args.place c.args.watch.clause c.args.watch.resume c.in-Some.other c.len-path.ensures.path c.requires.turning c.requires.place c.requires.clause m c.block.ensures.ends c.block.ensures.pairs c.block.ensures.watches in
+    stays-blocked c.args.clauses.now.clauses c.args.clauses.now.vars c.args.self.now c.block.new.self c.args.trail.now c.args.head c.args.lit c.args.place c.args.watch.clause (record { blocker = c.in-Some.other; clause = c.args.watch.clause; resume = c.args.watch.resume; binary = false }) c.len-within.ensures.within c.requires.turning b (sym c.holds.ensures ∙ c.if-holds.true)
 
 pub settle-requires-clause-within : goal.settle-requires-clause-within
 settle-requires-clause-within c =
-    let k : c.args.clause < length c.args.self.now.pairs.items = read-inside c.args.clauses.now.clauses c.args.self.now c.args.trail.now c.args.head c.args.lit c.args.place c.args.clause c.requires.turning c.requires.place c.requires.clause in
-    let o : IsOtherOf (pair_at c.args.self.now.pairs.items c.args.clause) c.args.lit c.in-Some.other = subst (λ p. IsOtherOf p c.args.lit c.in-Some.other) (pair-read c.args.self.now.pairs.items c.args.clause c.index.result.now c.index.ensures k) c.in-Some.ensures in
-    let m : has (clause_no c.args.clauses.now.clauses c.args.clause) c.in-Some.other ≡ true = read-other c.args.clauses.now.clauses c.args.self.now c.args.trail.now c.args.head c.args.lit c.args.place c.args.clause c.in-Some.other c.requires.turning k o in
-    other-within c.args.clauses.now.clauses c.args.clauses.now.vars c.args.clause c.args.trail.now c.in-Some.other c.requires.vars c.len-within.ensures.within
-    (read-inside-all c.args.clauses.now.clauses c.args.self.now c.args.trail.now c.args.head c.args.lit c.args.place c.args.clause c.requires.turning c.requires.place c.requires.clause) m
+    let o : IsOtherOf (pair_at c.args.self.now.pairs.items c.args.watch.clause) c.args.lit c.in-Some.other = other-read c.args.clauses.now.clauses c.args.self.now c.args.trail.now c.args.head c.args.lit c.args.place c.args.watch.clause c.in-Some.other c.index.result.now c.requires.turning c.requires.place c.requires.clause c.index.ensures c.in-Some.ensures in
+    let m : has (clause_no c.args.clauses.now.clauses c.args.watch.clause) c.in-Some.other ≡ true = other-read-member c.args.clauses.now.clauses c.args.self.now c.args.trail.now c.args.head c.args.lit c.args.place c.args.watch.clause c.in-Some.other c.requires.turning c.requires.place c.requires.clause o in
+    other-within c.args.clauses.now.clauses c.args.clauses.now.vars c.args.watch.clause c.args.trail.now c.in-Some.other c.requires.vars c.len-within.ensures.within (read-inside-all c.args.clauses.now.clauses c.args.self.now c.args.trail.now c.args.head c.args.lit c.args.place c.args.watch.clause c.requires.turning c.requires.place c.requires.clause) m
 
-pub returns-in_default-other_left-clause-visited : goal.returns-in_default-other_left-clause-visited
-returns-in_default-other_left-clause-visited c = visited-settled c.args.clauses.now.clauses c.args.self.now c.args.trail.now c.settle.new.trail c.args.head c.args.lit c.args.place c.args.clause c.settle.result c.requires.turning c.settle.ensures.extends c.requires.clause c.settle.ensures.settled
+pub returns-in_default-left_from-clause-visited : goal.returns-in_default-left_from-clause-visited
+returns-in_default-left_from-clause-visited c =
+    let o : IsOtherOf (pair_at c.args.self.now.pairs.items c.args.watch.clause) c.args.lit c.in-Some.other = other-read c.args.clauses.now.clauses c.args.self.now c.args.trail.now c.args.head c.args.lit c.args.place c.args.watch.clause c.in-Some.other c.index.result.now c.requires.turning c.requires.place c.requires.clause c.index.ensures c.in-Some.ensures in
+    let m : has (clause_no c.args.clauses.now.clauses c.args.watch.clause) c.in-Some.other ≡ true = other-read-member c.args.clauses.now.clauses c.args.self.now c.args.trail.now c.args.head c.args.lit c.args.place c.args.watch.clause c.in-Some.other c.requires.turning c.requires.place c.requires.clause o in
+    let b : Blocked c.args.clauses.now.clauses c.args.self.now c.block.new.self c.args.lit c.args.place c.args.watch.clause (record { blocker = c.in-Some.other; clause = c.args.watch.clause; resume = c.args.watch.resume; binary = false }) =
+    blocked-of c.args.clauses.now.clauses c.args.self.now c.block.new.self c.args.trail.now c.args.head c.args.lit c.args.place c.args.watch.clause c.args.watch.resume c.in-Some.other c.len-path.ensures.path c.requires.turning c.requires.place c.requires.clause m c.block.ensures.ends c.block.ensures.pairs c.block.ensures.watches in
+    visited-settled c.args.clauses.now.clauses c.block.new.self c.args.trail.now c.settle.new.trail c.args.head c.args.lit c.args.place c.args.watch.clause c.settle.result (turning-blocked c.args.clauses.now.clauses c.args.clauses.now.vars c.args.self.now c.block.new.self c.args.trail.now c.args.head c.args.lit c.args.place c.args.watch.clause (record { blocker = c.in-Some.other; clause = c.args.watch.clause; resume = c.args.watch.resume; binary = false }) c.len-within.ensures.within c.requires.turning b) c.settle.ensures.extends (clause-blocked c.args.clauses.now.clauses c.args.self.now c.block.new.self c.args.lit c.args.place c.args.watch.clause (record { blocker = c.in-Some.other; clause = c.args.watch.clause; resume = c.args.watch.resume; binary = false }) b) c.settle.ensures.settled
 
-pub rewatch-requires-clause-next : goal.rewatch-requires-clause-next
-rewatch-requires-clause-next c =
-    let f : IsOther c.args.trail.now.lits (clause_no c.args.clauses.now.clauses c.args.clause) c.in-Some.other c.in-Some-other_left.next = subst (λ (d : List ℤ). IsOther c.args.trail.now.lits d c.in-Some.other c.in-Some-other_left.next) c.clause.ensures.same c.in-Some-other_left.ensures in
-    let w : IsWithin c.args.trail.now.vars c.in-Some-other_left.next = other-within c.args.clauses.now.clauses c.args.clauses.now.vars c.args.clause c.args.trail.now c.in-Some-other_left.next c.requires.vars c.len-within.ensures.within
-    (read-inside-all c.args.clauses.now.clauses c.args.self.now c.args.trail.now c.args.head c.args.lit c.args.place c.args.clause c.requires.turning c.requires.place c.requires.clause) f.member in
-    code-inside c.args.trail.now.vars c.args.self.now.watches c.in-Some-other_left.next w c.requires.turning.propagating.sized
+pub go_on-requires-clause-turning : goal.go_on-requires-clause-turning
+go_on-requires-clause-turning c =
+    let o : IsOtherOf (pair_at c.args.self.now.pairs.items c.args.watch.clause) c.args.lit c.in-Some.other = other-read c.args.clauses.now.clauses c.args.self.now c.args.trail.now c.args.head c.args.lit c.args.place c.args.watch.clause c.in-Some.other c.index.result.now c.requires.turning c.requires.place c.requires.clause c.index.ensures c.in-Some.ensures in
+    let m : has (clause_no c.args.clauses.now.clauses c.args.watch.clause) c.in-Some.other ≡ true = other-read-member c.args.clauses.now.clauses c.args.self.now c.args.trail.now c.args.head c.args.lit c.args.place c.args.watch.clause c.in-Some.other c.requires.turning c.requires.place c.requires.clause o in
+    let b : Blocked c.args.clauses.now.clauses c.args.self.now c.block.new.self c.args.lit c.args.place c.args.watch.clause (record { blocker = c.in-Some.other; clause = c.args.watch.clause; resume = c.args.watch.resume; binary = false }) =
+    blocked-of c.args.clauses.now.clauses c.args.self.now c.block.new.self c.args.trail.now c.args.head c.args.lit c.args.place c.args.watch.clause c.args.watch.resume c.in-Some.other c.len-path.ensures.path c.requires.turning c.requires.place c.requires.clause m c.block.ensures.ends c.block.ensures.pairs c.block.ensures.watches in
+    turning-blocked c.args.clauses.now.clauses c.args.clauses.now.vars c.args.self.now c.block.new.self c.args.trail.now c.args.head c.args.lit c.args.place c.args.watch.clause (record { blocker = c.in-Some.other; clause = c.args.watch.clause; resume = c.args.watch.resume; binary = false }) c.len-within.ensures.within c.requires.turning b
 
-pub returns-then-rewatch-clause-visited : goal.returns-then-rewatch-clause-visited
-returns-then-rewatch-clause-visited c =
-    let k : c.args.clause < length c.args.self.now.pairs.items = read-inside c.args.clauses.now.clauses c.args.self.now c.args.trail.now c.args.head c.args.lit c.args.place c.args.clause c.requires.turning c.requires.place c.requires.clause in
-    let o : IsOtherOf (pair_at c.args.self.now.pairs.items c.args.clause) c.args.lit c.in-Some.other = subst (λ p. IsOtherOf p c.args.lit c.in-Some.other) (pair-read c.args.self.now.pairs.items c.args.clause c.index.result.now c.index.ensures k) c.in-Some.ensures in
-    let f : IsOther c.args.trail.now.lits (clause_no c.args.clauses.now.clauses c.args.clause) c.in-Some.other c.in-Some-other_left.next = subst (λ (d : List ℤ). IsOther c.args.trail.now.lits d c.in-Some.other c.in-Some-other_left.next) c.clause.ensures.same c.in-Some-other_left.ensures in
-    let w : IsWithin c.args.trail.now.vars c.in-Some-other_left.next = other-within c.args.clauses.now.clauses c.args.clauses.now.vars c.args.clause c.args.trail.now c.in-Some-other_left.next c.requires.vars c.len-within.ensures.within
-    (read-inside-all c.args.clauses.now.clauses c.args.self.now c.args.trail.now c.args.head c.args.lit c.args.place c.args.clause c.requires.turning c.requires.place c.requires.clause) f.member in
-    turning-goes c.args.clauses.now.clauses c.args.clauses.now.vars c.args.self.now c.rewatch.new.self c.args.trail.now c.args.head c.args.lit c.args.place c.args.clause c.in-Some-other_left.next c.in-Some.other
-    (record { clause = c.args.clause; blocker = c.in-Some.other; binary = false }) c.len-within.ensures.within c.requires.turning c.rewatch.ensures.ends
-    (c.rewatch.ensures.pairs c.if-rewatch.true) (c.rewatch.ensures.count c.if-rewatch.true) (c.rewatch.ensures.watches c.if-rewatch.true)
-    (moves-of c.args.clauses.now.clauses c.args.self.now c.args.trail.now c.args.head c.args.lit c.args.place c.args.clause c.in-Some-other_left.next c.in-Some.other c.requires.turning c.requires.place c.requires.clause o f w)
+pub go_on-requires-clause-moves : goal.go_on-requires-clause-moves
+go_on-requires-clause-moves c =
+    let o : IsOtherOf (pair_at c.args.self.now.pairs.items c.args.watch.clause) c.args.lit c.in-Some.other = other-read c.args.clauses.now.clauses c.args.self.now c.args.trail.now c.args.head c.args.lit c.args.place c.args.watch.clause c.in-Some.other c.index.result.now c.requires.turning c.requires.place c.requires.clause c.index.ensures c.in-Some.ensures in
+    let m : has (clause_no c.args.clauses.now.clauses c.args.watch.clause) c.in-Some.other ≡ true = other-read-member c.args.clauses.now.clauses c.args.self.now c.args.trail.now c.args.head c.args.lit c.args.place c.args.watch.clause c.in-Some.other c.requires.turning c.requires.place c.requires.clause o in
+    let b : Blocked c.args.clauses.now.clauses c.args.self.now c.block.new.self c.args.lit c.args.place c.args.watch.clause (record { blocker = c.in-Some.other; clause = c.args.watch.clause; resume = c.args.watch.resume; binary = false }) =
+    blocked-of c.args.clauses.now.clauses c.args.self.now c.block.new.self c.args.trail.now c.args.head c.args.lit c.args.place c.args.watch.clause c.args.watch.resume c.in-Some.other c.len-path.ensures.path c.requires.turning c.requires.place c.requires.clause m c.block.ensures.ends c.block.ensures.pairs c.block.ensures.watches in
+    let f : IsOther c.args.trail.now.lits (clause_no c.args.clauses.now.clauses c.args.watch.clause) c.in-Some.other c.lit_of-next.result = subst (λ (d : List ℤ). IsOther c.args.trail.now.lits d c.in-Some.other c.lit_of-next.result) c.clause-lits.ensures.same (left-other c.args.trail.now.lits c.clause-lits.result.now c.in-Some.other c.lit_of-next.result c.in-Some-left_from.at c.in-Some-left_from.ensures c.lit_of-next.ensures) in
+    moves-blocked c.args.clauses.now.clauses c.args.clauses.now.vars c.args.self.now c.block.new.self c.args.trail.now c.args.head c.args.lit c.args.place c.args.watch.clause c.resume_at.result c.lit_of-next.result c.in-Some.other (record { blocker = c.in-Some.other; clause = c.args.watch.clause; resume = c.args.watch.resume; binary = false }) c.long_watch-moved.result c.len-within.ensures.within c.requires.vars c.requires.turning b o f c.long_watch-moved.ensures
+
+pub returns-clause-extends : goal.returns-clause-extends
+returns-clause-extends c = extends-refl c.args.clauses.now.clauses c.args.trail.now

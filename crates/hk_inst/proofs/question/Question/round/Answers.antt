@@ -9,7 +9,7 @@ use Rattle.hk_inst.proofs.question.Question.round.Goals as goal
 
 pub returns-clause-reading : goal.returns-clause-reading
 returns-clause-reading c =
-    subst (λ (x : Asked). reading_of c.violated_in.new.case ≡ completed x.nodes x.table (number_in x.table.words c.args.a.now)) c.self.view_is (c.in_ok-found.ensures.case ∙ c.in_ok-case.ensures)
+    subst (λ (x : Asked). reading_of c.violated_in.new.case ≡ completed x.nodes x.table (number_in x.table.words c.args.a.now)) c.self.view_is (c.in_ok-found.ensures.case ∙ c.in_ok-case.ensures.case)
 
 pub returns-clause-decides : goal.returns-clause-decides
 returns-clause-decides c = kept-decides c.self.inside.state c.args.self.now c.args.a.now c.self.invariant c.self.view_is c.requires.satisfied (reading_of c.violated_in.new.case) (returns-clause-reading c)

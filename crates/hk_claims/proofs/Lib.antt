@@ -1,0 +1,11 @@
+mod Arguments
+mod Checked
+mod Claims
+mod Counts
+mod Fits
+mod Followed
+mod Keeps
+mod Marks
+mod Memories
+mod Proving
+mod Turns

@@ -1,0 +1,10 @@
+class S:
+    a = Bits(8)
+    b = Bits(8)
+def equiv(kernel, state):
+    return And(state.a == kernel.a, state.b == kernel.b)
+def swap(state, c):
+    new = state.copy()
+    new.a = If(c == 1, state.b, state.a)
+    new.b = If(c == 1, state.a, state.b)
+    return True, new
