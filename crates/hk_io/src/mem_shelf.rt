@@ -101,6 +101,7 @@ impl Shelf for MemShelf {
         ensures others { (other : List ℕ) → other ≢ name.now →
             held_under (Some (shelf_state self.new).files) other ≡ held_under (Some (shelf_state self.old).files) other }
         ensures failed { IsErrOf result SaveFault.Failed → Rose (shelf_state self.old).faults (shelf_state self.new).faults }
+        ensures unsaved { IsErrOf result SaveFault.Failed → (shelf_state self.new).files ≡ (shelf_state self.old).files }
         ensures still { OnOk result ((shelf_state self.new).faults ≡ (shelf_state self.old).faults) }
         ensures memory { IsErrOf result SaveFault.Memory →
             ((shelf_state self.new).files ≡ (shelf_state self.old).files) × ((shelf_state self.new).faults ≡ (shelf_state self.old).faults) }

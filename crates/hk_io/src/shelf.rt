@@ -14,7 +14,7 @@ pub trait Shelf {
     /// How often the outside has failed.
     ghost faults: { Self → ℕ };
 
-    /// The bytes of a file, of which there may be at most `limit`. The count rises where the outside fails, and nowhere else.
+    /// The bytes of a file, of which there may be at most `limit`. The count rises by one where the outside fails, and nowhere else.
     fn load(&mut self, alloc: Global, name: &str, limit: u32) -> Result<Vec<u8>, LoadFault>
         ensures found { IfOk result (λ bytes. IsSome (held self.old) →
             held_under (held self.old) name.now ≡ Some bytes.items) }
@@ -26,8 +26,8 @@ pub trait Shelf {
         ensures later { faults self.old ≤ faults self.new }
         ensures fits { faults self.new < 2 ^ 64 };
 
-    /// Makes these the bytes of a file, in place of those that it had. The count rises where the outside fails, and nowhere
-    /// else.
+    /// Makes these the bytes of a file, in place of those that it had. The count rises by one where the outside fails, and nowhere
+    /// else; a shelf that tells of its files has them as before then.
     fn save(&mut self, alloc: Global, name: &str, bytes: &[u8]) -> Result<(), SaveFault>
         ensures saved { OnOk result (IsSome (held self.old) →
             held_under (held self.new) name.now ≡ Some bytes.now) }
@@ -35,6 +35,7 @@ pub trait Shelf {
             held_under (held self.new) other ≡ held_under (held self.old) other }
         ensures told { is_some (held self.new) ≡ is_some (held self.old) }
         ensures failed { IsErrOf result SaveFault.Failed → Rose (faults self.old) (faults self.new) }
+        ensures unsaved { IsErrOf result SaveFault.Failed → held self.new ≡ held self.old }
         ensures still { OnOk result (faults self.new ≡ faults self.old) }
         ensures memory { IsErrOf result SaveFault.Memory →
             (held self.new ≡ held self.old) × (faults self.new ≡ faults self.old) }

@@ -36,10 +36,10 @@ pub record IsSaved (shelf : SavingView) (cert text : List ℕ) : Type 0 where
   pub others : KeepsOthers shelf cert
   pub still : shelf.after ≡ shelf.before
 
--- The save failed.
-pub record IsUnsaved (shelf : SavingView) (cert : List ℕ) : Type 0 where
+-- The save failed, and was tried once: one fault was counted, and the files are as before, where the shelf tells of them.
+pub record IsUnsaved (shelf : SavingView) : Type 0 where
   pub failed : Rose shelf.before shelf.after
-  pub others : KeepsOthers shelf cert
+  pub same : shelf.held' ≡ shelf.held
 
 -- Nothing was saved.
 pub record IsUntouched (shelf : SavingView) : Type 0 where
@@ -53,7 +53,7 @@ wanting_status answer = if is_faulted answer.init answer.verdicts then 1 else 7
 -- What saving the certificate of a report leaves, by the answer's fault.
 abbrev pub SavesWith : SavingView → ModuleView → Spec → List ℕ → Answer → Answer → Option TopFault → Type 0
 SavesWith shelf m spec cert given answer None = IsSaved shelf cert (certificate_text m spec (map entry_of given.verdicts)) × (answer.status ≡ given.status)
-SavesWith shelf m spec cert given answer (Some Write) = IsUnsaved shelf cert × (answer.status ≡ 6)
+SavesWith shelf m spec cert given answer (Some Write) = IsUnsaved shelf × (answer.status ≡ 6)
 SavesWith shelf m spec cert given answer (Some Memory) = IsUntouched shelf × (answer.status ≡ wanting_status given)
 SavesWith shelf m spec cert given answer (Some Usage) = ⊥
 SavesWith shelf m spec cert given answer (Some (Read w)) = ⊥
@@ -92,9 +92,9 @@ pub record IsReportCut (shelf : SavingView) (sink : SinkView) (budget : ℕ) (m 
   pub untouched : IsUntouched shelf
 
 -- The report is shown whole, and the save behind it failed.
-pub record IsSaveCut (shelf : SavingView) (sink : SinkView) (budget : ℕ) (m : ModuleView) (spec : Spec) (cert : List ℕ) (answer : Answer) : Type 0 where
+pub record IsSaveCut (shelf : SavingView) (sink : SinkView) (budget : ℕ) (m : ModuleView) (spec : Spec) (answer : Answer) : Type 0 where
   pub proved : IsProved sink budget m spec answer
-  pub unsaved : IsUnsaved shelf cert
+  pub unsaved : IsUnsaved shelf
   pub status : answer.status ≡ 6
 
 -- The report is shown whole, and memory was refused for the certificate.
@@ -106,7 +106,7 @@ pub record IsWanting (shelf : SavingView) (sink : SinkView) (budget : ℕ) (m : 
 -- What a report and its certificate leave, by the answer's fault.
 abbrev pub CertifiesWith : SavingView → SinkView → ℕ → ModuleView → Spec → List ℕ → Answer → Option TopFault → Type 0
 CertifiesWith shelf sink budget m spec cert answer None = IsWhole shelf sink budget m spec cert answer
-CertifiesWith shelf sink budget m spec cert answer (Some Write) = IsReportCut shelf sink budget m spec answer ⊎ IsSaveCut shelf sink budget m spec cert answer
+CertifiesWith shelf sink budget m spec cert answer (Some Write) = IsReportCut shelf sink budget m spec answer ⊎ IsSaveCut shelf sink budget m spec answer
 CertifiesWith shelf sink budget m spec cert answer (Some Memory) = IsWanting shelf sink budget m spec answer
 CertifiesWith shelf sink budget m spec cert answer (Some Usage) = ⊥
 CertifiesWith shelf sink budget m spec cert answer (Some (Read w)) = ⊥

@@ -11,12 +11,13 @@ use Rattle.ir_layout.specs.Initial.{initial_memory}
 use Rattle.ir_check.specs.Answers.{find_body}
 use Rattle.ir_value.specs.declared.value.StuckReason.{StuckReason}
 use Rattle.ir_value.specs.declared.value.StuckReason.TheVariants.{U1, U2, U3, U4, U5, U6, U7, U8, U9, U10, U11, U12, U13, U14, U15, U16, U17}
-use Rattle.ir_kernel.specs.declared.ends.RunEnd.{RunEnd}
-use Rattle.ir_kernel.specs.declared.ends.RunEnd.TheVariants as end
 use Rattle.ir_kernel.specs.Ends.{IsEndOfRun}
 use Rattle.ir_kernel.specs.declared.passing.Misfit.{Misfit}
 use Rattle.ir_kernel.specs.declared.passing.Misfit.TheVariants.{Unknown, Count, Argument, Pointer}
 use Rattle.ir_kernel.specs.Passing.{misfit}
+use Rattle.ir_spelled.specs.declared.running.Ending.{Ending}
+use Rattle.ir_spelled.specs.declared.running.Ending.TheVariants as ending
+use Rattle.ir_spelled.specs.Endings.{end_of}
 use Rattle.hk_rows.specs.Rows.{memory_text}
 use Rattle.hk_rows.specs.Texts.{line}
 use Rattle.hk_verdict.specs.declared.verdict.InitVerdict.TheVariants.{NotRun}
@@ -55,14 +56,14 @@ FaultOf why Write = ⊥
 abbrev pub call_fault : ModuleView → List ℕ → List ℕ → Option (ℕ × CallReason)
 call_fault m function arguments = option_map call_of (misfit m function arguments)
 
--- The run of the function of a name from the initial memory ends so.
-pub record IsRunOf (m : ModuleView) (function arguments : List ℕ) (end : RunEnd) : Type 0 where
+-- The run of the function of a name from the initial memory ends so: it returns, or it is stuck.
+pub record IsRunOf (m : ModuleView) (function arguments : List ℕ) (end : Ending) : Type 0 where
   pub place : ℕ
   pub found : find_body m.functions function ≡ Some place
-  pub ends : IsEndOfRun m place arguments (initial_memory m) end
+  pub ends : IsEndOfRun m place arguments (initial_memory m) (end_of end)
 
 -- What calling the function of a name gives: the end of its run, or why it is not run.
-abbrev pub Calls : ModuleView → List ℕ → List ℕ → Result RunEnd TopFault → Type 0
+abbrev pub Calls : ModuleView → List ℕ → List ℕ → Result Ending TopFault → Type 0
 Calls m function arguments (Ok end) = (call_fault m function arguments ≡ None) × IsRunOf m function arguments end
 Calls m function arguments (Err (OfCall f)) = call_fault m function arguments ≡ Some (f.word, f.reason)
 Calls m function arguments (Err Memory) = ⊤
@@ -107,34 +108,32 @@ returned_text m value memory = returned_line value ++ memory_text m.globals memo
 abbrev pub stuck_line : StuckReason → ℕ → List ℕ
 stuck_line reason l = line (codes "stuck " ∷ stuck_code reason ∷ codes " " ∷ decimal l ∷ [])
 
--- The lines of a run: what it returns and the rows of the memory then, or where it is stuck. A run that is lost has an answer of its own.
-abbrev pub end_text : ModuleView → RunEnd → List ℕ
-end_text m (end.Returned value memory) = returned_text m value memory
-end_text m (end.Stuck reason l) = stuck_line reason l
-end_text m end.Lost = line (codes "lost" ∷ [])
+-- The lines of a run: what it returns and the rows of the memory then, or where it is stuck.
+abbrev pub end_text : ModuleView → Ending → List ℕ
+end_text m (ending.Returned value memory) = returned_text m value memory
+end_text m (ending.Stuck reason l) = stuck_line reason l
 
 -- The status of a run.
-abbrev pub end_status : RunEnd → ℕ
-end_status (end.Returned value memory) = 0
-end_status (end.Stuck reason l) = 1
-end_status end.Lost = 3
+abbrev pub end_status : Ending → ℕ
+end_status (ending.Returned value memory) = 0
+end_status (ending.Stuck reason l) = 1
 
 -- ---- answers
 
 -- The lines are shown whole.
-pub record IsEndTold (sink : SinkView) (m : ModuleView) (e : RunEnd) (answer : Answer) : Type 0 where
+pub record IsEndTold (sink : SinkView) (m : ModuleView) (e : Ending) (answer : Answer) : Type 0 where
   pub says : sink.shown' ≡ shown_with sink.shown (end_text m e)
   pub still : sink.faults' ≡ sink.faults
   pub status : answer.status ≡ end_status e
 
 -- A put of the lines failed, and nothing was put behind it.
-pub record IsEndCut (sink : SinkView) (m : ModuleView) (e : RunEnd) (answer : Answer) : Type 0 where
+pub record IsEndCut (sink : SinkView) (m : ModuleView) (e : Ending) (answer : Answer) : Type 0 where
   pub failed : Rose sink.faults sink.faults'
   pub cut : ShowsPrefix sink.shown sink.shown' (end_text m e)
   pub status : answer.status ≡ 6
 
 -- What telling the end leaves, by the answer's fault.
-abbrev pub TellsEndWith : SinkView → ModuleView → RunEnd → Answer → Option TopFault → Type 0
+abbrev pub TellsEndWith : SinkView → ModuleView → Ending → Answer → Option TopFault → Type 0
 TellsEndWith sink m e answer None = IsEndTold sink m e answer
 TellsEndWith sink m e answer (Some Write) = IsEndCut sink m e answer
 TellsEndWith sink m e answer (Some Usage) = ⊥
@@ -147,13 +146,13 @@ TellsEndWith sink m e answer (Some (OfCnf f)) = ⊥
 TellsEndWith sink m e answer (Some (OfCall f)) = ⊥
 TellsEndWith sink m e answer (Some Memory) = ⊥
 
-pub record TellsEnd (sink : SinkView) (m : ModuleView) (e : RunEnd) (answer : Answer) : Type 0 where
+pub record TellsEnd (sink : SinkView) (m : ModuleView) (e : Ending) (answer : Answer) : Type 0 where
   pub tells : TellsEndWith sink m e answer answer.fault
   pub init : answer.init ≡ NotRun
   pub verdicts : answer.verdicts ≡ []
 
 -- The kernel's text was loaded, it spells this module, the function takes the arguments, and its run ends so.
-pub record IsRan (held : Option Files) (kernel function arguments : List ℕ) (m : ModuleView) (e : RunEnd) : Type 0 where
+pub record IsRan (held : Option Files) (kernel function arguments : List ℕ) (m : ModuleView) (e : Ending) : Type 0 where
   pub text : List ℕ
   pub loaded : AreLoaded held (run_files kernel) (text ∷ [])
   pub whole : IsWhole text m
@@ -190,7 +189,7 @@ HasRunCause shelf kernel function arguments Write = ⊥
 -- The function was run, and the end of its run put.
 pub record IsRunTold (shelf : ShelfView) (sink : SinkView) (kernel function arguments : List ℕ) (answer : Answer) : Type 0 where
   pub module_ : ModuleView
-  pub end_ : RunEnd
+  pub end_ : Ending
   pub ran : IsRan shelf.held kernel function arguments module_ end_
   pub tells : TellsEnd sink module_ end_ answer
 

@@ -6,12 +6,11 @@ ghost use Rattle.hk_io.specs.Faults.{Rose};
 ghost use Rattle.hk_io.specs.Shown.{shown_with, ShowsPrefix};
 ghost use Rattle.ir_ast.specs.ProgramView.{view_module};
 ghost use Rattle.hk_rows.specs.Rows.{memory_text};
-ghost use Rattle.ir_layout.specs.Initial.{initial_memory as initial_of};
-ghost use Rattle.ir_kernel.specs.Runs.{CanCall};
-ghost use Rattle.ir_kernel.specs.Ends.{IsEndOfRun};
 ghost use Rattle.ir_kernel.specs.Passing.{Passes};
+ghost use Rattle.ir_typed.specs.Spelled.{AreSpelled};
 ghost use Rattle.hk_verify.specs.Inputs.{ShelfView, CountsLoads};
 ghost use Rattle.hk_verify.specs.Answers.{SinkView, HidesNone};
+ghost use Rattle.hk_verify.specs.Whole.{IsWhole};
 ghost use Rattle.hk_verify.specs.Words.{IsRun, bytes_of};
 ghost use Rattle.hk_verify.specs.Runs.{Calls, FaultOf, HasRunCause, IsRan, MeansRun, TellsEnd, end_status, end_text, returned_line, returned_text, stuck_code, stuck_line};
 
@@ -25,8 +24,9 @@ use hk_rows::{Part, put_line, put_memory};
 use hk_seq::Seq;
 use hk_verdict::InitVerdict;
 use ir_ast::Name;
-use ir_kernel::{Kernel, Misfit, Passed, RunEnd, initial_memory, pass};
+use ir_kernel::{Kernel, Misfit, Passed, pass};
 use ir_layout::KMemory;
+use ir_spelled::{Ending, run_from_start, texts_are_spelled};
 use ir_value::StuckReason;
 use std::alloc::{AllocError, Global};
 
@@ -76,18 +76,12 @@ fn passed(
     pass(alloc, kernel, &name, arguments)
 }
 
-/// Runs the function at a place from the initial memory.
-fn run_at(
-    alloc: Global,
-    kernel: &Kernel,
-    place: u32,
-    arguments: &[u64],
-) -> Result<RunEnd, AllocError>
-    requires { CanCall (view_module kernel.now) place arguments.now }
-    ensures { IfOk result (IsEndOfRun (view_module kernel.now) place arguments.now (initial_of (view_module kernel.now))) }
+/// What the text of a kernel spells is spelled as the laws of runs ask.
+fn hold_spelled(text: &[u8], kernel: &Kernel)
+    requires { IsWhole text.now (view_module kernel.now) }
+    ensures { AreSpelled (view_module kernel.now) }
 {
-    let memory = initial_memory(alloc, kernel)?;
-    ir_kernel::run(alloc, kernel, place, arguments, &memory)
+    texts_are_spelled();
 }
 
 /// Runs the function of a name from the initial memory.
@@ -96,11 +90,12 @@ fn call(
     kernel: &Kernel,
     function: &str,
     arguments: &[u64],
-) -> Result<RunEnd, TopFault>
+) -> Result<Ending, TopFault>
+    requires { AreSpelled (view_module kernel.now) }
     ensures { Calls (view_module kernel.now) function.now arguments.now result }
 {
     match passed(alloc, kernel, function, arguments) {
-        Ok(Passed::To(place)) => match run_at(alloc, kernel, place, arguments) {
+        Ok(Passed::To(place)) => match run_from_start(alloc, kernel, function, place, arguments) {
             Ok(end) => Ok(end),
             Err(_) => Err(TopFault::Memory),
         },
@@ -113,7 +108,7 @@ fn call(
 #[derive(Drop)]
 struct Ran {
     kernel: Kernel,
-    end: RunEnd,
+    end: Ending,
 }
 
 /// Loads and reads the kernel, and runs the function of a name.
@@ -133,6 +128,7 @@ fn try_run<F: Shelf>(
 {
     let text = load_first(alloc, shelf, kernel, KERNEL_LIMIT)?;
     let kernel = read_whole(alloc, &text)?;
+    hold_spelled(&text, &kernel);
     let end = call(alloc, &kernel, function, arguments)?;
     Ok(Ran { kernel, end })
 }
@@ -221,32 +217,30 @@ fn put_state<O: Sink>(out: &mut O, kernel: &Kernel, memory: &KMemory) -> Result<
 }
 
 /// Puts the lines of a run.
-fn put_end<O: Sink>(out: &mut O, kernel: &Kernel, end: &RunEnd) -> Result<(), SinkFault>
+fn put_end<O: Sink>(out: &mut O, kernel: &Kernel, end: &Ending) -> Result<(), SinkFault>
     ensures whole { OnOk result (O.shown out.new ≡ shown_with (O.shown out.old) (end_text (view_module kernel.now) end.now)) }
     ensures cut { OnErr result (ShowsPrefix (O.shown out.old) (O.shown out.new) (end_text (view_module kernel.now) end.now)) }
     ensures failed { OnErr result (Rose (O.faults out.old) (O.faults out.new)) }
     ensures still { OnOk result (O.faults out.new ≡ O.faults out.old) }
 {
     match end {
-        RunEnd::Returned { value, memory } => put_returned(out, kernel, *value, memory),
-        RunEnd::Stuck { reason, line } => put_stuck(out, *reason, *line),
-        RunEnd::Lost => put_line(out, &[Part::Text(b"lost")]),
+        Ending::Returned { value, memory } => put_returned(out, kernel, *value, memory),
+        Ending::Stuck { reason, line } => put_stuck(out, *reason, *line),
     }
 }
 
 /// The status of a run.
-fn status_of(end: &RunEnd) -> u8
+fn status_of(end: &Ending) -> u8
     ensures { result ≡ end_status end.now }
 {
     match end {
-        RunEnd::Returned { .. } => 0,
-        RunEnd::Stuck { .. } => 1,
-        RunEnd::Lost => 3,
+        Ending::Returned { .. } => 0,
+        Ending::Stuck { .. } => 1,
     }
 }
 
 /// Puts the lines of a run and answers its status.
-fn report<O: Sink>(alloc: Global, out: &mut O, kernel: &Kernel, end: &RunEnd) -> Answer
+fn report<O: Sink>(alloc: Global, out: &mut O, kernel: &Kernel, end: &Ending) -> Answer
     ensures { let sink : SinkView = record { shown = O.shown out.old; shown' = O.shown out.new; faults = O.faults out.old; faults' = O.faults out.new } in
         TellsEnd sink (view_module kernel.now) end.now result }
 {
