@@ -25,3 +25,6 @@ pub mod Blocking
 pub mod Attaching
 pub mod Stamping
 pub mod Tracking
+pub mod Naming
+pub mod Deriving
+pub mod Segmenting

@@ -7,9 +7,11 @@ pub mod Learning
 pub mod Searching
 pub mod Solved
 pub mod States
+pub mod Names
 pub mod Ends
 pub mod Watches
 pub mod Watching
 pub mod Order
 pub mod Held
 pub mod Rounds
+pub mod Forgetting

@@ -14,6 +14,8 @@ ghost use Rattle.hk_cdcl.specs.States.{Leveled, Grows, Finds, Ran};
 ghost use Rattle.hk_cdcl.specs.Ends.{IfSat, IfUnsat, IfSpent, IfLogged, Came, Ends};
 ghost use Rattle.hk_cdcl.specs.declared.solver.SolveEnd.TheVariants.{Unsat};
 
+use crate::active::Kept;
+use crate::call::call;
 use crate::propagate::Propagate;
 use crate::search::{Found, Search, Step, copy_of};
 use crate::watched::Watched;
@@ -62,7 +64,7 @@ fn solve_with<P: Propagate>(
 }
 
 /// A call with this budget. The watches take the room that they had in earlier calls.
-fn run(
+pub fn run(
     alloc: Global,
     search: &mut Search,
     watched: &mut Watched,
@@ -123,6 +125,8 @@ fn grow_search(search: &mut Search, list: &ClauseList, given: usize) -> Result<(
 pub struct Solver {
     given: usize,
     search: Search,
+    active: Search,
+    kept: Vec<Kept>,
     watched: Watched,
 }
 
@@ -144,9 +148,13 @@ impl Solver {
         ensures { IfOk result (λ s. s ≡ record { list = list.now; log = [] }) }
     {
         let search = Search::new(alloc, list)?;
+        let none = ClauseList::new(alloc, 0);
+        let active = Search::new(alloc, &none)?;
         Ok(Solver {
             given: list.len(),
             search,
+            active,
+            kept: Vec::new(alloc),
             watched: Watched::new(alloc),
         })
     }
@@ -172,7 +180,15 @@ impl Solver {
         ensures accepted { AreAccepted (start self.new.list) self.new.log }
         ensures came { IfOk result (Came self.old self.new budget) }
     {
-        run(alloc, &mut self.search, &mut self.watched, budget)
+        call(
+            alloc,
+            self.given,
+            &mut self.search,
+            &mut self.active,
+            &mut self.kept,
+            &mut self.watched,
+            budget,
+        )
     }
 }
 
@@ -257,8 +273,12 @@ impl Solver {
         let Solver {
             given: _,
             search,
+            active,
+            kept,
             watched,
         } = self;
+        drop(active);
+        drop(kept);
         drop(watched);
         search.into_log()
     }
