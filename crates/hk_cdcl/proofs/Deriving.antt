@@ -42,7 +42,7 @@ derived-at vars cs (Add id c hints ∷ log) (suc i) d a o s lt =
     subst (λ ds. IsDerived ds (length cs + suc i) (get_or log i d)) (append_assoc cs (c ∷ []) (additions log))
     (subst (λ n. IsDerived ((cs ++ c ∷ []) ++ additions log) n (get_or log i d)) (let n : length (cs ++ c ∷ []) ≡ length cs + 1 = length_push cs c in omega (arith, n))
     (derived-at vars (cs ++ c ∷ []) log i d (subst (λ t. AreAccepted t log) (row-after (record { vars = vars; clauses = cs }) id c hints o.0) a.1)
-        (subst (λ n. AreOrdered n log) (sym (length_push cs c)) o.2) (All-tail (λ row. is_empty_addition row ≡ false) (Add id c hints) log s) (omega (arith, lt))))
+    (subst (λ n. AreOrdered n log) (sym (length_push cs c)) o.2) (All-tail (λ row. is_empty_addition row ≡ false) (Add id c hints) log s) (omega (arith, lt))))
 
 pub logged-derived : (list clauses : Clauses) (log : List LratRow) → IsLogged list clauses log → AreDerived clauses.clauses (length list.clauses) log
 logged-derived list clauses log h =

@@ -51,12 +51,7 @@ fn front_of(alloc: Global, whole: &ClauseList, given: usize) -> Result<Part, All
 }
 
 /// Adds the clause of a row that stays, where the list has it.
-fn add_kept(
-    part: &mut Part,
-    whole: &ClauseList,
-    given: usize,
-    row: usize,
-) -> Result<(), AllocError>
+fn add_kept(part: &mut Part, whole: &ClauseList, given: usize, row: usize) -> Result<(), AllocError>
     requires inside { given ≤ length whole.now.clauses }
     requires part { IsPart given whole.now part.old }
     ensures { OnOk result (IsPart given whole.now part.new) }

@@ -33,27 +33,30 @@ struct Plan {
     room: usize,
 }
 
-/// The clauses that the first segment may learn, but for a third of the given ones.
-const FIRST: u64 = 500;
+/// The clauses that the first segment may learn, and the learned ones that stay behind it, but for a third of the given ones.
+const FIRST: usize = 1_000;
 
-/// By how much each segment learns more than the one before it, and leaves more.
-const STEP: u64 = 10;
+/// By how much each segment is longer than the one before it.
+const LONGER: u64 = 100;
+
+/// By how much more stays behind each segment than behind the one before it.
+const MORE: usize = 50;
 
 impl Plan {
     /// For the first segment over so many given clauses.
     fn new(given: usize) -> Plan {
-        let third = given / 3;
+        let room = FIRST.saturating_add(given / 3);
         Plan {
-            length: FIRST.saturating_add(third as u64),
-            room: third,
+            length: room as u64,
+            room,
         }
     }
 
     /// For the segment behind.
     fn next(self) -> Plan {
         Plan {
-            length: self.length.saturating_add(STEP),
-            room: self.room.saturating_add(STEP as usize),
+            length: self.length.saturating_add(LONGER),
+            room: self.room.saturating_add(MORE),
         }
     }
 
@@ -150,7 +153,14 @@ fn segment(
     let mut watched = Watched::new(alloc);
     let found = run(alloc, active, &mut watched, budget)?;
     take_over(alloc, whole, active, &mut names)?;
-    *kept = choose(alloc, active, names.as_slice(), given, kept.as_slice(), room)?;
+    *kept = choose(
+        alloc,
+        active,
+        names.as_slice(),
+        given,
+        kept.as_slice(),
+        room,
+    )?;
     tell(alloc, whole, active, names.as_slice(), found)
 }
 

@@ -120,13 +120,19 @@ fn grow_search(search: &mut Search, list: &ClauseList, given: usize) -> Result<(
 }
 
 /// A solver that lives through rounds: between two calls its list may grow at the end. It keeps what was learned: the
-/// learned clauses with their log, the activities of variables, the values that they had last, and room for watches.
+/// learned clauses with their log and which of them stay in the search, the activities of variables, the values that they
+/// had last, and room for watches.
 #[derive(Drop)]
 pub struct Solver {
+    /// The number of given clauses.
     given: usize,
+    /// The given clauses, all learned ones and their log; and the search that forgets none of them.
     search: Search,
+    /// The search of the present segment, over the given clauses and the learned ones that stay.
     active: Search,
+    /// The learned clauses that stay.
     kept: Vec<Kept>,
+    /// Watches for the search that forgets nothing.
     watched: Watched,
 }
 
@@ -193,7 +199,8 @@ impl Solver {
 }
 
 impl Solver {
-    /// Solves the held list by clause learning, with a budget of at least 1 for the clauses that this call learns.
+    /// Solves the held list by clause learning, with a budget of at least 1 for the clauses that this call learns. Where
+    /// learning and forgetting spends it, it is spent once more by a search that forgets nothing.
     ///
     /// Answers an assignment that satisfies the list; or a log in LRAT that refutes it; or, where the budget is spent, a log
     /// whose rows are accepted and whose last `budget` additions, those of this call, are each a clause that unit

@@ -7,5 +7,5 @@ abbrev pub invariant-loop-i : goal.invariant-loop-i
 invariant-loop-i l =
     record {
       learns : Learns l.initial.whole l.whole;
-      are_names : AreNames (take (l.first + l.i) l.active.clauses.clauses) l.whole.clauses.clauses l.names.items
+      are_names : AreNames (take (l.first + l.i) l.active.clauses.clauses) l.whole.clauses.clauses l.names.items;
     }
