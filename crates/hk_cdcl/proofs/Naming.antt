@@ -14,7 +14,7 @@ use Rattle.hk_lrat.specs.Log.{Live, numbered, clause_of, at_clause, at_hint, fol
 use Rattle.hk_cdcl.specs.Analysis.{Derives}
 use Rattle.hk_cdcl.specs.Path.{clause_at}
 use Rattle.hk_cdcl.specs.declared.names.Part.{Part}
-use Rattle.hk_cdcl.specs.Names.{named, AreNames, front_of, IsFront, IsPart}
+use Rattle.hk_cdcl.specs.Names.{named, AreNames, IsFront, IsPart}
 use Rattle.hk_cdcl.specs.Searching.{with_clause}
 use Rattle.hk_cdcl.proofs.Leading.{clause_of-numbered}
 

@@ -1,12 +1,12 @@
 -- A search in segments: what each learns comes to the whole list, and what it answers holds of the whole list.
-use Rattle.std.proofs.Common.{◌≡◌, ℕ, zero, suc, ◌+◌, ◌-◌, ◌<◌, ◌≤◌, false, List, [], ◌∷◌, ◌++◌, length, map, take, get_or, ℤ, Bool, Option, Some, None, Result, Ok, Err, IfOk, IfSome, refl, sym, ◌∙◌, ap, subst, arith, append_assoc, length-append}
+use Rattle.std.proofs.Common.{◌≡◌, ℕ, ◌+◌, ◌-◌, ◌≤◌, List, [], ◌∷◌, ◌++◌, length, map, take, get_or, ℤ, Bool, Option, Some, None, Result, Ok, Err, IfOk, IfSome, refl, sym, ◌∙◌, ap, subst, arith, append_assoc, length-append}
 use Rattle.std.proofs.lemmas.List.{append-nil, take-append-le}
 use Rattle.std.specs.declared.alloc.AllocError.{AllocError}
 use Rattle.std.specs.List.{All}
 use Rattle.hk_cnf.specs.Literal.{IsWithin}
 use Rattle.hk_cnf.specs.Clauses.{Clauses, clauses_value}
 use Rattle.hk_lrat.specs.declared.log.LratRow.{LratRow}
-use Rattle.hk_lrat.specs.declared.log.LratRow.TheVariants.{Add, Delete}
+use Rattle.hk_lrat.specs.declared.log.LratRow.TheVariants.{Add}
 use Rattle.hk_lrat.specs.Log.{has_both, is_nil}
 use Rattle.hk_cdcl.specs.declared.names.Part.{Part}
 use Rattle.hk_cdcl.specs.declared.search.Search.{Search}

@@ -1,5 +1,4 @@
 use Rattle.hk_cdcl.proofs.Segmenting.{learns-same, learns-then, searched, says-ran, answers-told}
-use Rattle.std.proofs.Common.{refl}
 use Rattle.hk_cdcl.proofs.segments.segment.Goals as goal
 
 pub take_over-requires : goal.take_over-requires
