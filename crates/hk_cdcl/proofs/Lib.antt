@@ -25,3 +25,7 @@ pub mod Blocking
 pub mod Attaching
 pub mod Stamping
 pub mod Tracking
+pub mod Codes
+pub mod Packed
+pub mod Showing
+pub mod Looks

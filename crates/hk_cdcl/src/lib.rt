@@ -6,9 +6,11 @@
 
 mod analyze;
 mod learn;
+mod lists;
 mod minimize;
 mod order;
 mod propagate;
+mod records;
 mod restarts;
 mod scan;
 mod search;
