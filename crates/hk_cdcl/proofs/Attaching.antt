@@ -253,14 +253,17 @@ pub begins-none : (clauses : List (List ℤ)) (w u : Watched) (lits : List ℤ) 
 begins-none clauses w u lits c e t f =
     record {
       inside = omega arith;
-      watching = record { texts = subst (AreTexts clauses) (sym t) (record { is = refl }); watched = subst (λ ps. AreWatched clauses u.watches.lists ps u.ends.items lits) (sym e) (subst (λ es. AreWatched clauses u.watches.lists [] es lits) (sym f) (record {
-        count = omega arith;
-        watches = λ l nz. subst (All (IsWatch clauses 0 l)) (sym (c.none (code_of l))) (All-nil (IsWatch clauses 0 l));
-        paired = λ k lt. absurd (omega (arith, lt));
-        rising = λ i j d a b. absurd (omega (arith, b));
-        inside = All-nil (λ n. n ≤ length lits);
-        ended = λ k lt. absurd (omega (arith, lt));
-      })) };
+      watching = record {
+        texts = subst (AreTexts clauses) (sym t) (record { is = refl });
+        watched = subst (λ ps. AreWatched clauses u.watches.lists ps u.ends.items lits) (sym e) (subst (λ es. AreWatched clauses u.watches.lists [] es lits) (sym f) (record {
+          count = omega arith;
+          watches = λ l nz. subst (All (IsWatch clauses 0 l)) (sym (c.none (code_of l))) (All-nil (IsWatch clauses 0 l));
+          paired = λ k lt. absurd (omega (arith, lt));
+          rising = λ i j d a b. absurd (omega (arith, b));
+          inside = All-nil (λ n. n ≤ length lits);
+          ended = λ k lt. absurd (omega (arith, lt));
+        }));
+      };
       resting = record { each = λ k lt. absurd (none k lt) };
     }
   where
@@ -332,7 +335,7 @@ texts-push : (clauses texts : List (List ℤ)) (k : ℕ) → k ≡ length texts 
 texts-push clauses texts k e lt h =
     record {
       is = ap (λ ts. ts ++ clause_no clauses k ∷ []) (h.is ∙ ap (λ n. take n clauses) (sym e))
-      ∙ (sym (take_more clauses k [] lt) ∙ ap (λ n. take n clauses) (let n : length (texts ++ clause_no clauses k ∷ []) ≡ length texts + 1 = length_push texts (clause_no clauses k) in omega (arith, n, e)));
+          ∙ (sym (take_more clauses k [] lt) ∙ ap (λ n. take n clauses) (let n : length (texts ++ clause_no clauses k ∷ []) ≡ length texts + 1 = length_push texts (clause_no clauses k) in omega (arith, n, e)));
     }
 
 pub text-is : (clauses texts : List (List ℤ)) (k : ℕ) → k < length texts → AreTexts clauses texts → text_at texts k ≡ clause_no clauses k

@@ -118,8 +118,11 @@ turning-written clauses vars w u p head l n from k x within t b ee ep et ew =
       propagating = record {
         sized = let s : 2 * p.vars ≤ length w.watches.lists = t.propagating.sized in let e : length u.watches.lists ≡ length w.watches.lists = ap (λ (ls : List (List Watch)). length ls) ew ∙ length-set w.watches.lists (code_of l) (set (watches_of w.watches.lists l) n x) in omega (arith, s, e);
         inside = t.propagating.inside;
-        watching = record { watched = subst (λ es. AreWatched clauses u.watches.lists u.watches.pairs (es).items p.lits) (sym ee) (subst (λ ps. AreWatched clauses u.watches.lists ps w.ends.items p.lits) (sym ep) (subst (λ ls. AreWatched clauses ls w.watches.pairs w.ends.items p.lits) (sym ew)
-            (watched-written clauses w.watches.lists w.watches.pairs w.ends.items p.lits l n k x (members-nonzero vars clauses (length w.watches.pairs) within t.propagating.watching.watched.count) t.propagating.watching.watched b))); texts = subst (AreTexts clauses) (sym et) t.propagating.watching.texts };
+        watching = record {
+          watched = subst (λ es. AreWatched clauses u.watches.lists u.watches.pairs (es).items p.lits) (sym ee) (subst (λ ps. AreWatched clauses u.watches.lists ps w.ends.items p.lits) (sym ep) (subst (λ ls. AreWatched clauses ls w.watches.pairs w.ends.items p.lits) (sym ew)
+              (watched-written clauses w.watches.lists w.watches.pairs w.ends.items p.lits l n k x (members-nonzero vars clauses (length w.watches.pairs) within t.propagating.watching.watched.count) t.propagating.watching.watched b)));
+          texts = subst (AreTexts clauses) (sym et) t.propagating.watching.texts;
+        };
         resting = subst (λ ps. AreResting clauses ps p.lits head) (sym ep) t.propagating.resting;
       };
       at = t.at;

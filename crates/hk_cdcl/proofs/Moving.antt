@@ -192,8 +192,11 @@ turning-goes clauses vars w u p head l from k next other x within t ee ep el et 
       propagating = record {
         sized = let s : 2 * p.vars ≤ length w.watches.lists = t.propagating.sized in omega (arith, s, el);
         inside = t.propagating.inside;
-        watching = record { watched = subst (λ es. AreWatched clauses u.watches.lists u.watches.pairs (es).items p.lits) (sym ee) (subst (λ ps. AreWatched clauses u.watches.lists ps w.ends.items p.lits) (sym ep)
-            (watched-moved clauses w.watches.lists u.watches.lists w.watches.pairs w.ends.items p.lits l from k next other x t.at.nonzero (members-nonzero vars clauses (length w.watches.pairs) within t.propagating.watching.watched.count) t.propagating.watching.watched mv m)); texts = subst (AreTexts clauses) (sym et) t.propagating.watching.texts };
+        watching = record {
+          watched = subst (λ es. AreWatched clauses u.watches.lists u.watches.pairs (es).items p.lits) (sym ee) (subst (λ ps. AreWatched clauses u.watches.lists ps w.ends.items p.lits) (sym ep)
+              (watched-moved clauses w.watches.lists u.watches.lists w.watches.pairs w.ends.items p.lits l from k next other x t.at.nonzero (members-nonzero vars clauses (length w.watches.pairs) within t.propagating.watching.watched.count) t.propagating.watching.watched mv m));
+          texts = subst (AreTexts clauses) (sym et) t.propagating.watching.texts;
+        };
         resting = subst (λ ps. AreResting clauses ps p.lits head) (sym ep) (resting-moved clauses w.watches.lists w.watches.pairs p.lits head l from k next other x t.propagating.inside t.propagating.resting m);
       };
       at = t.at;

@@ -199,18 +199,18 @@ rewritten-packed words starts m a b h lm =
     packed-kept words (rewritten words (word starts m) a b) starts h (length-set (set words (word starts m) a) (word starts m + 1) b ∙ length-set words (word starts m) a)
     (λ k lk. rewritten-keeps words starts m k a b h lm lk)
     (λ k lk.
-        let one : word starts k + 2 ≢ word starts m = other-head words starts m k (word starts m) 2 h lm lk (omega arith) (omega arith) (omega arith) (inr (λ x. omega (arith, x))) in
-        let two : word starts k + 2 ≢ word starts m + 1 = other-head words starts m k (word starts m + 1) 2 h lm lk (omega arith) (omega arith) (omega arith) (inr (λ x. omega (arith, x))) in
-        subst (λ x. x ≤ word words (word starts k + 3)) (sym (rewritten-other words (word starts m) a b (word starts k + 2) one two)) (h.each k lk).resume)
+    let one : word starts k + 2 ≢ word starts m = other-head words starts m k (word starts m) 2 h lm lk (omega arith) (omega arith) (omega arith) (inr (λ x. omega (arith, x))) in
+    let two : word starts k + 2 ≢ word starts m + 1 = other-head words starts m k (word starts m + 1) 2 h lm lk (omega arith) (omega arith) (omega arith) (inr (λ x. omega (arith, x))) in
+    subst (λ x. x ≤ word words (word starts k + 3)) (sym (rewritten-other words (word starts m) a b (word starts k + 2) one two)) (h.each k lk).resume)
 
 rewritten-pair : (words starts : List ℕ) (m a b k : ℕ) → ArePacked words starts → m < length starts → k < length starts → k ≢ m → pair_of (rewritten words (word starts m) a b) (word starts k) ≡ pair_of words (word starts k)
 rewritten-pair words starts m a b k h lm lk d =
     let one : word (rewritten words (word starts m) a b) (word starts k) ≡ word words (word starts k) = rewritten-other words (word starts m) a b (word starts k)
-        (λ e. other-head words starts m k (word starts m) 0 h lm lk (omega arith) (omega arith) (omega arith) (inl d) (omega (arith, e)))
-        (λ e. other-head words starts m k (word starts m + 1) 0 h lm lk (omega arith) (omega arith) (omega arith) (inl d) (omega (arith, e))) in
+    (λ e. other-head words starts m k (word starts m) 0 h lm lk (omega arith) (omega arith) (omega arith) (inl d) (omega (arith, e)))
+    (λ e. other-head words starts m k (word starts m + 1) 0 h lm lk (omega arith) (omega arith) (omega arith) (inl d) (omega (arith, e))) in
     let two : word (rewritten words (word starts m) a b) (word starts k + 1) ≡ word words (word starts k + 1) = rewritten-other words (word starts m) a b (word starts k + 1)
-        (other-head words starts m k (word starts m) 1 h lm lk (omega arith) (omega arith) (omega arith) (inl d))
-        (other-head words starts m k (word starts m + 1) 1 h lm lk (omega arith) (omega arith) (omega arith) (inl d)) in
+    (other-head words starts m k (word starts m) 1 h lm lk (omega arith) (omega arith) (omega arith) (inl d))
+    (other-head words starts m k (word starts m + 1) 1 h lm lk (omega arith) (omega arith) (omega arith) (inl d)) in
     ap (λ x. paired x (word (rewritten words (word starts m) a b) (word starts k + 1))) one
     ∙ ap (λ x. paired (word words (word starts k)) x) two
 

@@ -164,9 +164,9 @@ rewatch-as w n v code place next slot mid e lc ln d lt em en es =
 -- all lists are empty, and empty ones come
 pub cleared-as : (w n : Inside) (v : Plain) → view_of w ≡ v → AreEmpty w.lists n.lists → AreCleared v.lists (view_of n).lists
 cleared-as w n v e h = subst (λ (x : Plain). AreCleared x.lists (view_of n).lists) e (record {
-      count = shown-count n.records.starts n.lists ∙ (h.count ∙ sym (shown-count w.records.starts w.lists));
-      none = λ k. shown-at n.records.starts n.lists k ∙ ap (map (plain_of n.records.starts)) (h.none k);
-    })
+  count = shown-count n.records.starts n.lists ∙ (h.count ∙ sym (shown-count w.records.starts w.lists));
+  none = λ k. shown-at n.records.starts n.lists k ∙ ap (map (plain_of n.records.starts)) (h.none k);
+})
 
 pub widened-as : (w n : Inside) (v : Plain) → view_of w ≡ v → IsLonger w.lists n.lists → n.records ≡ w.records → IsSame v.lists (view_of n).lists
 widened-as w n v e h er =
@@ -205,5 +205,5 @@ pub attached-as : (w n : Inside) (v : Plain) (s one two : ℕ) (first second : �
 attached-as w n v s one two first second binary a b mid e ep named fresh low fz sz e1 e2 ab bb at bt em en es =
     subst (λ (x : Plain). length x.pairs ≡ length x.starts → ((l : ℤ) → l ≢ pos 0 → All (λ (y : Watch). y.clause < length x.pairs) (watches_of x.lists l)) → (view_of n).lists ≡ with_both x.lists first second (length x.pairs) binary) e
     (λ k m. subst (λ (c : ℕ). (view_of n).lists ≡ with_both (plain_lists w.records.starts w.lists) first second c binary) (sym k)
-        (attached-there w n s one two first second binary a b mid (λ l nz. subst (λ (c : ℕ). All (λ (y : Watch). y.clause < c) (watches_of (plain_lists w.records.starts w.lists) l)) k (m l nz)) fresh low fz sz e1 e2 ab bb at bt em en es))
+    (attached-there w n s one two first second binary a b mid (λ l nz. subst (λ (c : ℕ). All (λ (y : Watch). y.clause < c) (watches_of (plain_lists w.records.starts w.lists) l)) k (m l nz)) fresh low fz sz e1 e2 ab bb at bt em en es))
     ep named

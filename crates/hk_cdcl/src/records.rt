@@ -240,8 +240,7 @@ impl Records {
         let words = self.count.saturating_mul(5).saturating_add(self.literals);
         self.starts
             .reserve(self.count.saturating_sub(self.starts.len()))?;
-        self.words
-            .reserve(words.saturating_sub(self.words.len()))?;
+        self.words.reserve(words.saturating_sub(self.words.len()))?;
         Ok(())
     }
 
