@@ -28,3 +28,7 @@ pub mod Tracking
 pub mod Naming
 pub mod Deriving
 pub mod Segmenting
+pub mod Codes
+pub mod Packed
+pub mod Showing
+pub mod Looks

@@ -9,6 +9,11 @@ pub mod Solved
 pub mod States
 pub mod Names
 pub mod Ends
+pub mod Records
+pub mod Packing
+pub mod Slots
+pub mod Looking
+pub mod Plain
 pub mod Watches
 pub mod Watching
 pub mod Order
