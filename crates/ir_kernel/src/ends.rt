@@ -19,7 +19,7 @@ pub enum RunEnd {
     Returned { value: Option<u64>, memory: KMemory },
     /// The run is stuck, at the instruction on a line.
     Stuck { reason: StuckReason, line: u32 },
-    /// A name or a type did not fit. No run of a checked kernel ends so; it is proved of each kind of instruction, and not yet of whole runs.
+    /// A name or a type did not fit. No run ends so of a kernel that a text spells.
     Lost,
 }
 
