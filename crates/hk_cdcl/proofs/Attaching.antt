@@ -1,7 +1,7 @@
 -- Clauses that come under watch, and the ends at which nothing was left to do.
 use Rattle.std.proofs.Common.{◌≡◌, ◌≢◌, ◌⊎◌, ℕ, ◌+◌, ◌-◌, ◌*◌, ◌<◌, ◌≤◌, Bool, true, false, List, [], ◌∷◌, ◌++◌, length, take, drop, min, get_or, ℤ, pos, neg_ℤ, Option, Some, None, MatchOption, IfSome, refl, sym, ◌∙◌, ap, subst, inl, inr, arith, length-append}
 use Rattle.std.proofs.lemmas.Bool.{cases_lt, false_from_ne_true}
-use Rattle.std.proofs.lemmas.List.{take_all, length-take, length-take-le, get_or_default, get_or-take, get_or_append_left, get_or-append-add, length_push, take-append-drop, take-take}
+use Rattle.std.proofs.lemmas.List.{take_all, length-take, length-take-le, get_or_default, get_or-take, get_or_append_left, get_or-append-add, length_push, take-append-drop, take-take, take-append-le, take_more}
 use Rattle.std.proofs.Math.ListN.{length-set}
 use Rattle.std.proofs.lemmas.List.Elements.{All-weaker, All-push, All-nil, All-take}
 use Rattle.std.proofs.lemmas.List.Quantifiers.{all_pairs_push}
@@ -11,14 +11,13 @@ use Rattle.hk_cnf.specs.Literal.{IsWithin, place_of, code_of, has}
 use Rattle.hk_cnf.proofs.Members.{int_eq-is, int_eq-not, all-has}
 use Rattle.hk_cnf.specs.Clauses.{AreWithin}
 use Rattle.hk_cnf.proofs.Tells.{hint-false}
-use Rattle.hk_cdcl.specs.declared.watches.Watch.{Watch}
-use Rattle.hk_cdcl.specs.declared.watched.Pair.{Pair}
+use Rattle.hk_cdcl.specs.Records.{text_at, pair_at, Pair}
+use Rattle.hk_cdcl.specs.Watches.{Plain, with_watch, with_both, Watch, watches_of, AreCleared, IsSame}
 use Rattle.hk_cdcl.specs.declared.watched.Watched.{Watched}
 use Rattle.hk_cdcl.specs.Fresh.{AreQuiet}
 use Rattle.hk_cdcl.specs.Path.{Path, IsPath, Extends, lit_at}
 use Rattle.hk_cdcl.specs.Propagation.{Grown, IsConflict}
-use Rattle.hk_cdcl.specs.Watches.{watches_of, AreCleared, IsSame}
-use Rattle.hk_cdcl.specs.Watching.{clause_no, pair_at, Lists, IsWatch, IsPair, IsOpen, Rests, AreWatched, AreResting, Watching, Fits, Propagating, IsBeside, IsFront, IsEnded, with_watch, with_both, EndsMore, Begins}
+use Rattle.hk_cdcl.specs.Watching.{clause_no, Lists, IsWatch, IsPair, IsOpen, Rests, AreWatched, AreTexts, AreResting, IsAttached, Watching, Fits, Propagating, IsBeside, IsFront, IsEnded, EndsMore, Begins}
 use Rattle.hk_cdcl.proofs.Places.{has-place, at-take, apart-consistent, place_of-neg}
 use Rattle.hk_cdcl.proofs.Extending.{extends-longer}
 use Rattle.hk_cdcl.proofs.Leveling.{has-longer}
@@ -139,10 +138,10 @@ watched-attached clauses lists pairs ends lits first second binary members h a e
     pair = record { first = first; second = second }
 
     one : Watch
-    one = record { blocker = second; clause = length pairs; resume = 0; binary = binary }
+    one = record { blocker = second; clause = length pairs; binary = binary }
 
     two : Watch
-    two = record { blocker = first; clause = length pairs; resume = 0; binary = binary }
+    two = record { blocker = first; clause = length pairs; binary = binary }
 
     mid : List (List Watch)
     mid = with_watch lists first one
@@ -150,13 +149,13 @@ watched-attached clauses lists pairs ends lits first second binary members h a e
     long : length (pairs ++ (record { first = first; second = second }) ∷ []) ≡ length pairs + 1
     long = length_push pairs pair
 
-    mid-inside : code_of second < length (with_watch lists first (record { blocker = second; clause = length pairs; resume = 0; binary = binary }))
+    mid-inside : code_of second < length (with_watch lists first (record { blocker = second; clause = length pairs; binary = binary }))
     mid-inside = let n : length (with_watch lists first one) ≡ length lists = length-set lists (code_of first) (watches_of lists first ++ one ∷ []) in let b : code_of second < length lists = a.second_inside in omega (arith, n, b)
 
-    is-one : IsWatch clauses (length pairs + 1) first (record { blocker = second; clause = length pairs; resume = 0; binary = binary })
+    is-one : IsWatch clauses (length pairs + 1) first (record { blocker = second; clause = length pairs; binary = binary })
     is-one = record { inside = omega arith; member = a.second_member; binary = a.only }
 
-    is-two : IsWatch clauses (length pairs + 1) second (record { blocker = first; clause = length pairs; resume = 0; binary = binary })
+    is-two : IsWatch clauses (length pairs + 1) second (record { blocker = first; clause = length pairs; binary = binary })
     is-two = record { inside = omega arith; member = a.first_member; binary = λ b. flip (clause_no clauses (length pairs)) first second (a.only b) }
 
     watches : (m : ℤ) → m ≢ pos 0 → All (IsWatch clauses (length pairs + 1) m) (watches_of (with_both lists first second (length pairs) binary) m)
@@ -239,38 +238,41 @@ rests-whole lits n c pair le (inr t) = inr (record { literal = t.literal; member
 
 pub begins-last : (clauses : List (List ℤ)) (w : Watched) (lits : List ℤ) (start : ℕ) → 0 < length w.ends.items → start ≡ get_or w.ends.items (length w.ends.items - 1) 0 → Fits w clauses lits → Begins clauses w lits start
 begins-last clauses w lits start some e f =
-    let h : AreWatched clauses w.watches w.pairs.items w.ends.items lits = f some in
+    let h : AreWatched clauses w.watches.lists w.watches.pairs w.ends.items lits = (f some).watched in
     let i : length w.ends.items - 1 < length w.ends.items = omega (arith, some) in
     record {
       inside = subst (λ n. n ≤ length lits) (sym e) (h.inside (length w.ends.items - 1) 0 i);
-      watching = h;
+      watching = f some;
       resting = record {
-        each = λ k b. subst (λ n. Rests (take n lits) lits (clause_no clauses k) (pair_at w.pairs.items k)) (sym e)
-            (rests-whole lits (get_or w.ends.items (length w.ends.items - 1) 0) (clause_no clauses k) (pair_at w.pairs.items k) (h.inside (length w.ends.items - 1) 0 i) (h.ended k b (length w.ends.items - 1) 0 i));
+        each = λ k b. subst (λ n. Rests (take n lits) lits (clause_no clauses k) (pair_at w.watches.pairs k)) (sym e)
+            (rests-whole lits (get_or w.ends.items (length w.ends.items - 1) 0) (clause_no clauses k) (pair_at w.watches.pairs k) (h.inside (length w.ends.items - 1) 0 i) (h.ended k b (length w.ends.items - 1) 0 i));
       };
     }
 
-pub begins-none : (clauses : List (List ℤ)) (w u : Watched) (lits : List ℤ) → AreCleared w.watches u.watches → u.pairs.items ≡ [] → u.ends.items ≡ [] → Begins clauses u lits 0
-begins-none clauses w u lits c e f =
+pub begins-none : (clauses : List (List ℤ)) (w u : Watched) (lits : List ℤ) → AreCleared w.watches.lists u.watches.lists → u.watches.pairs ≡ [] → u.watches.texts ≡ [] → u.ends.items ≡ [] → Begins clauses u lits 0
+begins-none clauses w u lits c e t f =
     record {
       inside = omega arith;
-      watching = subst (λ ps. AreWatched clauses u.watches ps u.ends.items lits) (sym e) (subst (λ es. AreWatched clauses u.watches [] es lits) (sym f) (record {
-        count = omega arith;
-        watches = λ l nz. subst (All (IsWatch clauses 0 l)) (sym (c.none (code_of l))) (All-nil (IsWatch clauses 0 l));
-        paired = λ k lt. absurd (omega (arith, lt));
-        rising = λ i j d a b. absurd (omega (arith, b));
-        inside = All-nil (λ n. n ≤ length lits);
-        ended = λ k lt. absurd (omega (arith, lt));
-      }));
+      watching = record {
+        texts = subst (AreTexts clauses) (sym t) (record { is = refl });
+        watched = subst (λ ps. AreWatched clauses u.watches.lists ps u.ends.items lits) (sym e) (subst (λ es. AreWatched clauses u.watches.lists [] es lits) (sym f) (record {
+          count = omega arith;
+          watches = λ l nz. subst (All (IsWatch clauses 0 l)) (sym (c.none (code_of l))) (All-nil (IsWatch clauses 0 l));
+          paired = λ k lt. absurd (omega (arith, lt));
+          rising = λ i j d a b. absurd (omega (arith, b));
+          inside = All-nil (λ n. n ≤ length lits);
+          ended = λ k lt. absurd (omega (arith, lt));
+        }));
+      };
       resting = record { each = λ k lt. absurd (none k lt) };
     }
   where
-    none : (k : ℕ) → k < length u.pairs.items → ⊥
-    none k lt = let n : length u.pairs.items ≡ 0 = ap length e in omega (arith, lt, n)
+    none : (k : ℕ) → k < length u.watches.pairs → ⊥
+    none k lt = let n : length u.watches.pairs ≡ 0 = ap length e in omega (arith, lt, n)
 
 -- a front of the trail was seen
 pub fits-front : (w : Watched) (clauses : List (List ℤ)) (lits : List ℤ) (n : ℕ) → Fits w clauses (take n lits) → Fits w clauses lits
-fits-front w clauses lits n f = λ some. subst (AreWatched clauses w.watches w.pairs.items w.ends.items) (take-append-drop n lits) (watched-append clauses w.watches w.pairs.items w.ends.items (take n lits) (drop n lits) (f some))
+fits-front w clauses lits n f = λ some. record { watched = subst (AreWatched clauses w.watches.lists w.watches.pairs w.ends.items) (take-append-drop n lits) (watched-append clauses w.watches.lists w.watches.pairs w.ends.items (take n lits) (drop n lits) (f some).watched); texts = (f some).texts }
 
 -- an end more
 pub watched-end : (clauses : List (List ℤ)) (lists : List (List Watch)) (pairs : List Pair) (ends new : List ℕ) (lits : List ℤ) → AreWatched clauses lists pairs ends lits → AreResting clauses pairs lits (length lits) → EndsMore ends new (length lits) → AreWatched clauses lists pairs new lits
@@ -300,29 +302,53 @@ watched-end clauses lists pairs ends new lits h r (inr (e, above)) =
         omega (arith, s, b, c)
 
 -- a shorter trail
-pub fits-cut : (w u : Watched) (clauses : List (List ℤ)) (lits : List ℤ) (n count : ℕ) → u.watches ≡ w.watches → u.pairs ≡ w.pairs → u.ends.items ≡ take count w.ends.items → (AllPairs (λ d e. d < e) w.ends.items → All (λ e. e ≤ n) (take count w.ends.items)) → Fits w clauses lits → Fits u clauses (take n lits)
-fits-cut w u clauses lits n count ew ep ee low f = λ some.
-    subst (λ ws. AreWatched clauses ws u.pairs.items u.ends.items (take n lits)) (sym ew) (subst (λ ps. AreWatched clauses w.watches (ps).items u.ends.items (take n lits)) (sym ep) (subst (λ es. AreWatched clauses w.watches w.pairs.items es (take n lits)) (sym ee) (shorter (f (more some)))))
+pub fits-cut : (w u : Watched) (clauses : List (List ℤ)) (lits : List ℤ) (n count : ℕ) → u.watches ≡ w.watches → u.ends.items ≡ take count w.ends.items → (AllPairs (λ d e. d < e) w.ends.items → All (λ e. e ≤ n) (take count w.ends.items)) → Fits w clauses lits → Fits u clauses (take n lits)
+fits-cut w u clauses lits n count ew ee low f = λ some.
+    record {
+      watched = subst (λ (ws : Plain). AreWatched clauses ws.lists ws.pairs u.ends.items (take n lits)) (sym ew) (subst (λ es. AreWatched clauses w.watches.lists w.watches.pairs es (take n lits)) (sym ee) (shorter (f (more some)).watched));
+      texts = subst (λ (ws : Plain). AreTexts clauses ws.texts) (sym ew) (f (more some)).texts;
+    }
   where
     more : 0 < length u.ends.items → 0 < length w.ends.items
     more some = let e : length u.ends.items ≡ length (take count w.ends.items) = ap length ee in grind (arith, length-take)
 
-    shorter : AreWatched clauses w.watches w.pairs.items w.ends.items lits → AreWatched clauses w.watches w.pairs.items (take count w.ends.items) (take n lits)
+    shorter : AreWatched clauses w.watches.lists w.watches.pairs w.ends.items lits → AreWatched clauses w.watches.lists w.watches.pairs (take count w.ends.items) (take n lits)
     shorter h =
-        let g : AreWatched clauses w.watches w.pairs.items (take count w.ends.items) lits = watched-front clauses w.watches w.pairs.items w.ends.items (take count w.ends.items) lits (record { count = count; is = refl }) h in
+        let g : AreWatched clauses w.watches.lists w.watches.pairs (take count w.ends.items) lits = watched-front clauses w.watches.lists w.watches.pairs w.ends.items (take count w.ends.items) lits (record { count = count; is = refl }) h in
         record {
           count = g.count;
           watches = g.watches;
           paired = g.paired;
           rising = g.rising;
           inside = λ k d lt. let a : get_or (take count w.ends.items) k d ≤ n = low h.rising k d lt in let b : get_or (take count w.ends.items) k d ≤ length lits = g.inside k d lt in let m : length (take n lits) ≡ min n (length lits) = length-take n lits in omega (arith, a, b, m);
-          ended = λ k b i d lt. subst (λ t. Rests t t (clause_no clauses k) (pair_at w.pairs.items k)) (sym (take-take (get_or (take count w.ends.items) i d) n lits (low h.rising i d lt))) (g.ended k b i d lt);
+          ended = λ k b i d lt. subst (λ t. Rests t t (clause_no clauses k) (pair_at w.watches.pairs k)) (sym (take-take (get_or (take count w.ends.items) i d) n lits (low h.rising i d lt))) (g.ended k b i d lt);
         }
 
+-- the records of the first clauses have their literals, as clauses come
+texts-few : (clauses texts : List (List ℤ)) → AreTexts clauses texts → length texts ≤ length clauses
+texts-few clauses texts h = let n : length texts ≡ min (length texts) (length clauses) = ap length h.is ∙ length-take (length texts) clauses in omega (arith, n)
+
+texts-grown : (old new texts : List (List ℤ)) → Grown old new → AreTexts old texts → AreTexts new texts
+texts-grown old new texts g h = record { is = h.is ∙ (sym (take-append-le (length texts) old g.more (texts-few old texts h)) ∙ ap (λ cs. take (length texts) cs) (sym g.is)) }
+
+texts-push : (clauses texts : List (List ℤ)) (k : ℕ) → k ≡ length texts → k < length clauses → AreTexts clauses texts → AreTexts clauses (texts ++ clause_no clauses k ∷ [])
+texts-push clauses texts k e lt h =
+    record {
+      is = ap (λ ts. ts ++ clause_no clauses k ∷ []) (h.is ∙ ap (λ n. take n clauses) (sym e))
+          ∙ (sym (take_more clauses k [] lt) ∙ ap (λ n. take n clauses) (let n : length (texts ++ clause_no clauses k ∷ []) ≡ length texts + 1 = length_push texts (clause_no clauses k) in omega (arith, n, e)));
+    }
+
+pub text-is : (clauses texts : List (List ℤ)) (k : ℕ) → k < length texts → AreTexts clauses texts → text_at texts k ≡ clause_no clauses k
+text-is clauses texts k lt h = ap (λ ts. get_or ts k []) h.is ∙ get_or-take (length texts) clauses k [] lt
+
 -- more clauses, and more lists
-pub fits-grown : (w u : Watched) (old new : List (List ℤ)) (lits : List ℤ) → IsSame w.watches u.watches → u.pairs.items ≡ w.pairs.items → u.ends.items ≡ w.ends.items → Grown old new → Fits w old lits → Fits u new lits
-fits-grown w u old new lits s ep ee g f = λ some.
-    subst (λ ps. AreWatched new u.watches ps u.ends.items lits) (sym ep) (subst (λ es. AreWatched new u.watches w.pairs.items es lits) (sym ee) (grown (f (subst (λ es. 0 < length es) ee some))))
+pub fits-grown : (w u : Watched) (old new : List (List ℤ)) (lits : List ℤ) → IsSame w.watches.lists u.watches.lists → u.watches.pairs ≡ w.watches.pairs → u.watches.texts ≡ w.watches.texts → u.ends.items ≡ w.ends.items → Grown old new → Fits w old lits → Fits u new lits
+fits-grown w u old new lits s ep et ee g f = λ some.
+    let h : Watching old w lits = f (subst (λ es. 0 < length es) ee some) in
+    record {
+      watched = subst (λ ps. AreWatched new u.watches.lists ps u.ends.items lits) (sym ep) (subst (λ es. AreWatched new u.watches.lists w.watches.pairs es lits) (sym ee) (grown h.watched));
+      texts = subst (AreTexts new) (sym et) (texts-grown old new w.watches.texts g h.texts);
+    }
   where
     same : (k : ℕ) → k < length old → clause_no new k ≡ clause_no old k
     same k lt = ap (λ cs. get_or cs k []) g.is ∙ get_or_append_left old g.more [] k lt
@@ -330,31 +356,31 @@ fits-grown w u old new lits s ep ee g f = λ some.
     longer : length old ≤ length new
     longer = let n : length new ≡ length old + length g.more = ap length g.is ∙ length-append old g.more in omega (arith, n)
 
-    listed : (l : ℤ) (k : ℕ) → Lists (watches_of w.watches l) 0 k → Lists (watches_of u.watches l) 0 k
+    listed : (l : ℤ) (k : ℕ) → Lists (watches_of w.watches.lists l) 0 k → Lists (watches_of u.watches.lists l) 0 k
     listed l k r = subst (λ ws. Lists ws 0 k) (sym (s.same l)) r
 
-    grown : AreWatched old w.watches w.pairs.items w.ends.items lits → AreWatched new u.watches w.pairs.items w.ends.items lits
+    grown : AreWatched old w.watches.lists w.watches.pairs w.ends.items lits → AreWatched new u.watches.lists w.watches.pairs w.ends.items lits
     grown h =
         record {
-          count = let c : length w.pairs.items ≤ length old = h.count in omega (arith, c, longer);
-          watches = λ l nz. subst (All (IsWatch new (length w.pairs.items) l)) (sym (s.same l)) (All-weaker (IsWatch old (length w.pairs.items) l) (IsWatch new (length w.pairs.items) l) (λ x k. watch h l x k) (watches_of w.watches l) (h.watches l nz));
+          count = let c : length w.watches.pairs ≤ length old = h.count in omega (arith, c, longer);
+          watches = λ l nz. subst (All (IsWatch new (length w.watches.pairs) l)) (sym (s.same l)) (All-weaker (IsWatch old (length w.watches.pairs) l) (IsWatch new (length w.watches.pairs) l) (λ x k. watch h l x k) (watches_of w.watches.lists l) (h.watches l nz));
           paired = λ k b.
-              let p : IsPair old w.watches k (pair_at w.pairs.items k) = h.paired k b in
-              let e : clause_no new k ≡ clause_no old k = same k (let c : length w.pairs.items ≤ length old = h.count in omega (arith, b, c)) in
+              let p : IsPair old w.watches.lists k (pair_at w.watches.pairs k) = h.paired k b in
+              let e : clause_no new k ≡ clause_no old k = same k (let c : length w.watches.pairs ≤ length old = h.count in omega (arith, b, c)) in
               record {
-                first = ap (λ c. has c (pair_at w.pairs.items k).first) e ∙ p.first;
-                second = ap (λ c. has c (pair_at w.pairs.items k).second) e ∙ p.second;
-                first_listed = listed (pair_at w.pairs.items k).first k p.first_listed;
-                second_listed = listed (pair_at w.pairs.items k).second k p.second_listed;
+                first = ap (λ c. has c (pair_at w.watches.pairs k).first) e ∙ p.first;
+                second = ap (λ c. has c (pair_at w.watches.pairs k).second) e ∙ p.second;
+                first_listed = listed (pair_at w.watches.pairs k).first k p.first_listed;
+                second_listed = listed (pair_at w.watches.pairs k).second k p.second_listed;
               };
           rising = h.rising;
           inside = h.inside;
-          ended = λ k b i d lt. subst (λ c. Rests (take (get_or w.ends.items i d) lits) (take (get_or w.ends.items i d) lits) c (pair_at w.pairs.items k)) (sym (same k (let c : length w.pairs.items ≤ length old = h.count in omega (arith, b, c)))) (h.ended k b i d lt);
+          ended = λ k b i d lt. subst (λ c. Rests (take (get_or w.ends.items i d) lits) (take (get_or w.ends.items i d) lits) c (pair_at w.watches.pairs k)) (sym (same k (let c : length w.watches.pairs ≤ length old = h.count in omega (arith, b, c)))) (h.ended k b i d lt);
         }
       where
-        watch : AreWatched old w.watches w.pairs.items w.ends.items lits → (l : ℤ) (x : Watch) → IsWatch old (length w.pairs.items) l x → IsWatch new (length w.pairs.items) l x
+        watch : AreWatched old w.watches.lists w.watches.pairs w.ends.items lits → (l : ℤ) (x : Watch) → IsWatch old (length w.watches.pairs) l x → IsWatch new (length w.watches.pairs) l x
         watch h l x k =
-            let e : clause_no new x.clause ≡ clause_no old x.clause = same x.clause (let c : length w.pairs.items ≤ length old = h.count in let b : x.clause < length w.pairs.items = k.inside in omega (arith, b, c)) in
+            let e : clause_no new x.clause ≡ clause_no old x.clause = same x.clause (let c : length w.watches.pairs ≤ length old = h.count in let b : x.clause < length w.watches.pairs = k.inside in omega (arith, b, c)) in
             record {
               inside = k.inside;
               member = ap (λ c. has c x.blocker) e ∙ k.member;
@@ -362,7 +388,7 @@ fits-grown w u old new lits s ep ee g f = λ some.
             }
 
 -- what a clause is attached by
-pub attaches-of : (clauses : List (List ℤ)) (vars : ℕ) (w : Watched) (p : Path) (head k : ℕ) (first second : ℤ) (binary : Bool) → AreWithin vars clauses → p.vars ≡ vars → Propagating clauses w p head → k < length clauses → has (clause_no clauses k) first ≡ true → has (clause_no clauses k) second ≡ true → (binary ≡ true → All (λ x. (second ≡ x) ⊎ (first ≡ x)) (clause_no clauses k)) → Attaches clauses w.watches k first second binary
+pub attaches-of : (clauses : List (List ℤ)) (vars : ℕ) (w : Watched) (p : Path) (head k : ℕ) (first second : ℤ) (binary : Bool) → AreWithin vars clauses → p.vars ≡ vars → Propagating clauses w p head → k < length clauses → has (clause_no clauses k) first ≡ true → has (clause_no clauses k) second ≡ true → (binary ≡ true → All (λ x. (second ≡ x) ⊎ (first ≡ x)) (clause_no clauses k)) → Attaches clauses w.watches.lists k first second binary
 attaches-of clauses vars w p head k first second binary within ev h lt a b only =
     let wa : IsWithin p.vars first = other-within clauses vars k p first ev within lt a in
     let wb : IsWithin p.vars second = other-within clauses vars k p second ev within lt b in
@@ -372,28 +398,31 @@ attaches-of clauses vars w p head k first second binary within ev h lt a b only 
       second_member = b;
       first_nonzero = wa.literal.nonzero;
       second_nonzero = wb.literal.nonzero;
-      first_inside = code-inside p.vars w.watches first wa h.sized;
-      second_inside = code-inside p.vars w.watches second wb h.sized;
+      first_inside = code-inside p.vars w.watches.lists first wa h.sized;
+      second_inside = code-inside p.vars w.watches.lists second wb h.sized;
       only = only;
     }
 
-pub propagating-attached : (clauses : List (List ℤ)) (vars : ℕ) (w u : Watched) (p : Path) (head k : ℕ) (first second : ℤ) (binary : Bool) → k ≡ length w.pairs.items → AreWithin vars clauses → Propagating clauses w p head → Attaches clauses w.watches k first second binary → u.watches ≡ with_both w.watches first second k binary → u.pairs.items ≡ w.pairs.items ++ (record { first = first; second = second }) ∷ [] → IsFront w.ends.items u.ends.items → IsEnded u.ends.items p.lits (clause_no clauses k) (record { first = first; second = second }) → Rests (take head p.lits) p.lits (clause_no clauses k) (record { first = first; second = second }) → Propagating clauses u p head
-propagating-attached clauses vars w u p head k first second binary ek within h a ew ep front ended rests =
+pub propagating-attached : (clauses : List (List ℤ)) (vars : ℕ) (w u : Watched) (p : Path) (head k : ℕ) (first second : ℤ) (at : IsAttached (clause_no clauses k) w.watches u.watches first second) → k ≡ length w.watches.pairs → AreWithin vars clauses → Propagating clauses w p head → Attaches clauses w.watches.lists k first second at.binary → IsFront w.ends.items u.ends.items → IsEnded u.ends.items p.lits (clause_no clauses k) (record { first = first; second = second }) → Rests (take head p.lits) p.lits (clause_no clauses k) (record { first = first; second = second }) → Propagating clauses u p head
+propagating-attached clauses vars w u p head k first second at ek within h a front ended rests =
     record {
-      sized = let s : 2 * p.vars ≤ length w.watches = h.sized in omega (arith, s, long);
+      sized = let s : 2 * p.vars ≤ length w.watches.lists = h.sized in omega (arith, s, long);
       inside = h.inside;
-      watching = subst (λ ws. AreWatched clauses ws u.pairs.items u.ends.items p.lits) (sym (ew ∙ ap (λ i. with_both w.watches first second i binary) ek)) (subst (λ ps. AreWatched clauses (with_both w.watches first second (length w.pairs.items) binary) ps u.ends.items p.lits) (sym ep)
-          (watched-attached clauses w.watches w.pairs.items u.ends.items p.lits first second binary (members-nonzero vars clauses (length w.pairs.items) within h.watching.count)
-          (watched-front clauses w.watches w.pairs.items w.ends.items u.ends.items p.lits front h.watching) (subst (λ i. Attaches clauses w.watches i first second binary) ek a)
-          (subst (λ i. IsEnded u.ends.items p.lits (clause_no clauses i) (record { first = first; second = second })) ek ended)));
-      resting = subst (λ ps. AreResting clauses ps p.lits head) (sym ep) (resting-attached clauses w.pairs.items p.lits head (record { first = first; second = second }) h.resting (subst (λ i. Rests (take head p.lits) p.lits (clause_no clauses i) (record { first = first; second = second })) ek rests));
+      watching = record {
+        watched = subst (λ ws. AreWatched clauses ws u.watches.pairs u.ends.items p.lits) (sym at.lists) (subst (λ ps. AreWatched clauses (with_both w.watches.lists first second (length w.watches.pairs) at.binary) ps u.ends.items p.lits) (sym at.pairs)
+            (watched-attached clauses w.watches.lists w.watches.pairs u.ends.items p.lits first second at.binary (members-nonzero vars clauses (length w.watches.pairs) within h.watching.watched.count)
+            (watched-front clauses w.watches.lists w.watches.pairs w.ends.items u.ends.items p.lits front h.watching.watched) (subst (λ i. Attaches clauses w.watches.lists i first second at.binary) ek a)
+            (subst (λ i. IsEnded u.ends.items p.lits (clause_no clauses i) (record { first = first; second = second })) ek ended)));
+        texts = subst (AreTexts clauses) (sym at.texts) (texts-push clauses w.watches.texts k (ek ∙ sym at.count) a.inside h.watching.texts);
+      };
+      resting = subst (λ ps. AreResting clauses ps p.lits head) (sym at.pairs) (resting-attached clauses w.watches.pairs p.lits head (record { first = first; second = second }) h.resting (subst (λ i. Rests (take head p.lits) p.lits (clause_no clauses i) (record { first = first; second = second })) ek rests));
     }
   where
     one : Watch
-    one = record { blocker = second; clause = k; resume = 0; binary = binary }
+    one = record { blocker = second; clause = length w.watches.pairs; binary = at.binary }
 
-    long : length u.watches ≡ length w.watches
-    long = ap length ew ∙ (length-set (with_watch w.watches first one) (code_of second) (watches_of (with_watch w.watches first one) second ++ (record { blocker = first; clause = k; resume = 0; binary = binary }) ∷ []) ∙ length-set w.watches (code_of first) (watches_of w.watches first ++ one ∷ []))
+    long : length u.watches.lists ≡ length w.watches.lists
+    long = ap length at.lists ∙ (length-set (with_watch w.watches.lists first one) (code_of second) (watches_of (with_watch w.watches.lists first one) second ++ (record { blocker = first; clause = length w.watches.pairs; binary = at.binary }) ∷ []) ∙ length-set w.watches.lists (code_of first) (watches_of w.watches.lists first ++ one ∷ []))
 
 pub front-whole : (ends : List ℕ) → IsFront ends ends
 front-whole ends = record { count = length ends; is = sym (take_all (length ends) ends (omega arith)) }
@@ -410,34 +439,35 @@ open-rests lits c head first second le d a b = inl (record { apart = d; first_le
 pub propagating-extends : (clauses : List (List ℤ)) (w : Watched) (p q : Path) (head : ℕ) → Propagating clauses w p head → Extends clauses p q → Propagating clauses w q head
 propagating-extends clauses w p q head h e =
     record {
-      sized = subst (λ v. 2 * v ≤ length w.watches) (sym e.vars) h.sized;
+      sized = subst (λ v. 2 * v ≤ length w.watches.lists) (sym e.vars) h.sized;
       inside = let g : length p.lits ≤ length q.lits = extends-longer clauses p q e in let b : head ≤ length p.lits = h.inside in omega (arith, b, g);
-      watching = subst (AreWatched clauses w.watches w.pairs.items w.ends.items) (sym e.lits) (watched-append clauses w.watches w.pairs.items w.ends.items p.lits e.more h.watching);
-      resting = subst (λ ls. AreResting clauses w.pairs.items ls head) (sym e.lits) (resting-append clauses w.pairs.items p.lits e.more head h.inside h.resting);
+      watching = record { watched = subst (AreWatched clauses w.watches.lists w.watches.pairs w.ends.items) (sym e.lits) (watched-append clauses w.watches.lists w.watches.pairs w.ends.items p.lits e.more h.watching.watched); texts = h.watching.texts };
+      resting = subst (λ ls. AreResting clauses w.watches.pairs ls head) (sym e.lits) (resting-append clauses w.watches.pairs p.lits e.more head h.inside h.resting);
     }
 
 -- a clause of which one literal alone was left
-pub propagating-lone : (clauses : List (List ℤ)) (vars : ℕ) (w v u : Watched) (p q : Path) (head k : ℕ) (first second : ℤ) (binary : Bool) → k ≡ length w.pairs.items → AreWithin vars clauses → p.vars ≡ vars → Propagating clauses w p head → k < length clauses → Extends clauses p q → has q.lits first ≡ true → has (clause_no clauses k) first ≡ true → has (clause_no clauses k) second ≡ true → (binary ≡ true → All (λ x. (second ≡ x) ⊎ (first ≡ x)) (clause_no clauses k)) → v.pairs ≡ w.pairs → v.watches ≡ w.watches → IsFront w.ends.items v.ends.items → (AllPairs (λ d e. d < e) w.ends.items → All (λ e. e ≤ length q.lits) w.ends.items → IsEnded v.ends.items q.lits (clause_no clauses k) (record { first = first; second = second })) → u.watches ≡ with_both v.watches first second k binary → u.pairs.items ≡ v.pairs.items ++ (record { first = first; second = second }) ∷ [] → u.ends ≡ v.ends → Propagating clauses u q head
-propagating-lone clauses vars w v u p q head k first second binary ek within ev h lt e holds a b only vp vw vf ended uw up ue =
+pub propagating-lone : (clauses : List (List ℤ)) (vars : ℕ) (w v u : Watched) (p q : Path) (head k : ℕ) (first second : ℤ) → k ≡ length w.watches.pairs → AreWithin vars clauses → p.vars ≡ vars → Propagating clauses w p head → k < length clauses → Extends clauses p q → has q.lits first ≡ true → has (clause_no clauses k) first ≡ true → has (clause_no clauses k) second ≡ true → v.watches ≡ w.watches → IsFront w.ends.items v.ends.items → (AllPairs (λ d e. d < e) w.ends.items → All (λ e. e ≤ length q.lits) w.ends.items → IsEnded v.ends.items q.lits (clause_no clauses k) (record { first = first; second = second })) → IsAttached (clause_no clauses k) v.watches u.watches first second → u.ends ≡ v.ends → Propagating clauses u q head
+propagating-lone clauses vars w v u p q head k first second ek within ev h lt e holds a b vw vf ended at ue =
     let hq : Propagating clauses w q head = propagating-extends clauses w p q head h e in
-    propagating-attached clauses vars w u q head k first second binary ek within hq
-    (attaches-of clauses vars w q head k first second binary within (e.vars ∙ ev) hq lt a b only)
-    (uw ∙ ap (λ ws. with_both ws first second k binary) vw)
-    (up ∙ ap (λ ps. (ps).items ++ (record { first = first; second = second }) ∷ []) vp)
+    let am : IsAttached (clause_no clauses k) w.watches u.watches first second = subst (λ (ws : Plain). IsAttached (clause_no clauses k) ws u.watches first second) vw at in
+    propagating-attached clauses vars w u q head k first second am ek within hq
+    (attaches-of clauses vars w q head k first second am.binary within (e.vars ∙ ev) hq lt a b am.only)
     (subst (λ es. IsFront w.ends.items (es).items) (sym ue) vf)
-    (subst (λ es. IsEnded (es).items q.lits (clause_no clauses k) (record { first = first; second = second })) (sym ue) (ended hq.watching.rising hq.watching.inside))
+    (subst (λ es. IsEnded (es).items q.lits (clause_no clauses k) (record { first = first; second = second })) (sym ue) (ended hq.watching.watched.rising hq.watching.watched.inside))
     (inr (record { literal = first; member = a; holds = holds }))
 
 -- the next clause is false
 pub next-false : (clauses : List (List ℤ)) (lits : List ℤ) (k : ℕ) → k < length clauses → All (λ x. has lits (neg_ℤ x) ≡ true) (clause_no clauses k) → IsConflict clauses lits k
 next-false clauses lits k lt h = record { inside = lt; falsified = hint-false (has lits) (clause_no clauses k) h }
 
-pub propagating-begins : (clauses : List (List ℤ)) (w : Watched) (p : Path) (start : ℕ) → Begins clauses w p.lits start → 2 * p.vars ≤ length w.watches → Propagating clauses w p start
+pub propagating-begins : (clauses : List (List ℤ)) (w : Watched) (p : Path) (start : ℕ) → Begins clauses w p.lits start → 2 * p.vars ≤ length w.watches.lists → Propagating clauses w p start
 propagating-begins clauses w p start h s = record { sized = s; inside = h.inside; watching = h.watching; resting = h.resting }
 
-pub ended-quiet : (clauses : List (List ℤ)) (w u : Watched) (p : Path) → IsPath p → Propagating clauses w p (length p.lits) → length clauses ≤ length w.pairs.items → u.watches ≡ w.watches → u.pairs ≡ w.pairs → EndsMore w.ends.items u.ends.items (length p.lits) → Watching clauses u p.lits × AreQuiet (has p.lits) clauses
-ended-quiet clauses w u p path h all ew ep ee = (
-  subst (λ ws. AreWatched clauses ws u.pairs.items u.ends.items p.lits) (sym ew) (subst (λ ps. AreWatched clauses w.watches (ps).items u.ends.items p.lits) (sym ep)
-      (watched-end clauses w.watches w.pairs.items w.ends.items u.ends.items p.lits h.watching h.resting ee)),
-  resting-quiet clauses w.watches w.pairs.items w.ends.items p (length p.lits) path h.watching h.resting (omega arith) all,
+pub ended-quiet : (clauses : List (List ℤ)) (w u : Watched) (p : Path) → IsPath p → Propagating clauses w p (length p.lits) → length clauses ≤ length w.watches.pairs → u.watches ≡ w.watches → EndsMore w.ends.items u.ends.items (length p.lits) → Watching clauses u p.lits × AreQuiet (has p.lits) clauses
+ended-quiet clauses w u p path h all ew ee = (
+  record {
+    watched = subst (λ (ws : Plain). AreWatched clauses ws.lists ws.pairs u.ends.items p.lits) (sym ew) (watched-end clauses w.watches.lists w.watches.pairs w.ends.items u.ends.items p.lits h.watching.watched h.resting ee);
+    texts = subst (λ (ws : Plain). AreTexts clauses ws.texts) (sym ew) h.watching.texts;
+  },
+  resting-quiet clauses w.watches.lists w.watches.pairs w.ends.items p (length p.lits) path h.watching.watched h.resting (omega arith) all,
 )

@@ -9,17 +9,17 @@ use Rattle.std.specs.Ordering.{int_eq}
 use Rattle.hk_cnf.specs.Literal.{code_of, has}
 use Rattle.hk_cnf.specs.Clauses.{AreWithin}
 use Rattle.hk_cnf.proofs.Members.{int_eq-is, int_eq-not}
-use Rattle.hk_cdcl.specs.declared.watches.Watch.{Watch}
-use Rattle.hk_cdcl.specs.declared.watched.Pair.{Pair}
+use Rattle.hk_cdcl.specs.Looking.{IsLeftAt, AreFalseBetween, IsOther, IsOtherOf}
+use Rattle.hk_cdcl.specs.Records.{pair_at, Pair}
+use Rattle.hk_cdcl.specs.Watches.{Watch, watches_of, watch_at}
 use Rattle.hk_cdcl.specs.declared.watched.Watched.{Watched}
 use Rattle.hk_cdcl.specs.Path.{Path, IsPath, lit_at}
-use Rattle.hk_cdcl.specs.Watches.{watches_of, watch_at}
-use Rattle.hk_cdcl.specs.Watching.{clause_no, pair_at, Lists, IsWatch, IsPair, Rests, AreWatched, AreResting, AreLater, IsLeftAt, AreFalseBetween, IsOther, IsOtherOf, Moves, Turning, Fewer}
+use Rattle.hk_cdcl.specs.Watching.{clause_no, Lists, IsWatch, IsPair, Rests, AreWatched, AreTexts, AreResting, AreLater, Moves, Turning, Fewer}
 use Rattle.hk_cdcl.specs.declared.watched.Visit.{Visit}
 use Rattle.hk_cdcl.specs.declared.watched.Visit.TheVariants.{Stays, Goes, Stops, Wants}
 use Rattle.hk_cdcl.proofs.Places.{has-member}
 use Rattle.hk_cdcl.proofs.Relisting.{lists-same, lists-other}
-use Rattle.hk_cdcl.proofs.Moving.{members-nonzero, turning-stays, moves-of, other-within, pair-read, read-inside, read-inside-all, read-other, code-inside, head-within}
+use Rattle.hk_cdcl.proofs.Moving.{members-nonzero, turning-stays, moves-of, other-within, read-inside, read-inside-all, read-other, code-inside, head-within}
 
 -- what writing a watch needs: it names the same clause, which has the literal that blocks
 pub record Blocks (clauses : List (List ℤ)) (lists : List (List Watch)) (count : ℕ) (l : ℤ) (n k : ℕ) (w : Watch) : Type 0 where
@@ -48,8 +48,8 @@ list-written ws n from k w lt e h =
   where
     pick : (h.place ≡ n) ⊎ (h.place ≢ n) → (watch_at (set ws n w) h.place).clause ≡ k
     pick (inl s) =
-        ap (λ i. (watch_at (set ws n w) i).clause) s ∙ (ap (λ (x : Watch). x.clause) (get_or-set_same ws n w (record { blocker = pos 0; clause = 0; resume = 0; binary = false }) lt) ∙ (sym e ∙ (ap (λ i. (watch_at ws i).clause) (sym s) ∙ h.is)))
-    pick (inr d) = ap (λ (x : Watch). x.clause) (get_or-set_other ws n h.place w (record { blocker = pos 0; clause = 0; resume = 0; binary = false }) d) ∙ h.is
+        ap (λ i. (watch_at (set ws n w) i).clause) s ∙ (ap (λ (x : Watch). x.clause) (get_or-set_same ws n w (record { blocker = pos 0; clause = 0; binary = false }) lt) ∙ (sym e ∙ (ap (λ i. (watch_at ws i).clause) (sym s) ∙ h.is)))
+    pick (inr d) = ap (λ (x : Watch). x.clause) (get_or-set_other ws n h.place w (record { blocker = pos 0; clause = 0; binary = false }) d) ∙ h.is
 
 -- a literal is this one or another
 two : (m l : ℤ) → (m ≡ l) ⊎ (m ≢ l)
@@ -112,63 +112,68 @@ later-written clauses lists pairs lits head l n from k w h b = record { each = �
     pick j (inr r) = inr (written-lists clauses lists (length pairs) l l n from k j w b b.nonzero r)
 
 -- a turn goes on
-pub turning-written : (clauses : List (List ℤ)) (vars : ℕ) (w u : Watched) (p : Path) (head : ℕ) (l : ℤ) (n from k : ℕ) (x : Watch) → AreWithin vars clauses → Turning clauses w p head l from → Blocks clauses w.watches (length w.pairs.items) l n k x → u.ends ≡ w.ends → u.pairs ≡ w.pairs → u.watches ≡ written w.watches l n x → Turning clauses u p head l from
-turning-written clauses vars w u p head l n from k x within t b ee ep ew =
+pub turning-written : (clauses : List (List ℤ)) (vars : ℕ) (w u : Watched) (p : Path) (head : ℕ) (l : ℤ) (n from k : ℕ) (x : Watch) → AreWithin vars clauses → Turning clauses w p head l from → Blocks clauses w.watches.lists (length w.watches.pairs) l n k x → u.ends ≡ w.ends → u.watches.pairs ≡ w.watches.pairs → u.watches.texts ≡ w.watches.texts → u.watches.lists ≡ written w.watches.lists l n x → Turning clauses u p head l from
+turning-written clauses vars w u p head l n from k x within t b ee ep et ew =
     record {
       propagating = record {
-        sized = let s : 2 * p.vars ≤ length w.watches = t.propagating.sized in let e : length u.watches ≡ length w.watches = ap (λ (ls : List (List Watch)). length ls) ew ∙ length-set w.watches (code_of l) (set (watches_of w.watches l) n x) in omega (arith, s, e);
+        sized = let s : 2 * p.vars ≤ length w.watches.lists = t.propagating.sized in let e : length u.watches.lists ≡ length w.watches.lists = ap (λ (ls : List (List Watch)). length ls) ew ∙ length-set w.watches.lists (code_of l) (set (watches_of w.watches.lists l) n x) in omega (arith, s, e);
         inside = t.propagating.inside;
-        watching = subst (λ es. AreWatched clauses u.watches u.pairs.items (es).items p.lits) (sym ee) (subst (λ ps. AreWatched clauses u.watches (ps).items w.ends.items p.lits) (sym ep) (subst (λ ls. AreWatched clauses ls w.pairs.items w.ends.items p.lits) (sym ew)
-            (watched-written clauses w.watches w.pairs.items w.ends.items p.lits l n k x (members-nonzero vars clauses (length w.pairs.items) within t.propagating.watching.count) t.propagating.watching b)));
-        resting = subst (λ ps. AreResting clauses (ps).items p.lits head) (sym ep) t.propagating.resting;
+        watching = record {
+          watched = subst (λ es. AreWatched clauses u.watches.lists u.watches.pairs (es).items p.lits) (sym ee) (subst (λ ps. AreWatched clauses u.watches.lists ps w.ends.items p.lits) (sym ep) (subst (λ ls. AreWatched clauses ls w.watches.pairs w.ends.items p.lits) (sym ew)
+              (watched-written clauses w.watches.lists w.watches.pairs w.ends.items p.lits l n k x (members-nonzero vars clauses (length w.watches.pairs) within t.propagating.watching.watched.count) t.propagating.watching.watched b)));
+          texts = subst (AreTexts clauses) (sym et) t.propagating.watching.texts;
+        };
+        resting = subst (λ ps. AreResting clauses ps p.lits head) (sym ep) t.propagating.resting;
       };
       at = t.at;
-      later = subst (λ ps. AreLater clauses u.watches (ps).items p.lits head l from) (sym ep) (subst (λ ls. AreLater clauses ls w.pairs.items p.lits head l from) (sym ew) (later-written clauses w.watches w.pairs.items p.lits head l n from k x t.later b));
+      later = subst (λ ps. AreLater clauses u.watches.lists ps p.lits head l from) (sym ep) (subst (λ ls. AreLater clauses ls w.watches.pairs p.lits head l from) (sym ew) (later-written clauses w.watches.lists w.watches.pairs p.lits head l n from k x t.later b));
     }
 
 -- the watch that was written names the clause
-pub written-clause : (clauses : List (List ℤ)) (w u : Watched) (count : ℕ) (l : ℤ) (n k : ℕ) (x : Watch) → Blocks clauses w.watches count l n k x → u.watches ≡ written w.watches l n x → (watch_at (watches_of u.watches l) n).clause ≡ k
+pub written-clause : (clauses : List (List ℤ)) (w u : Watched) (count : ℕ) (l : ℤ) (n k : ℕ) (x : Watch) → Blocks clauses w.watches.lists count l n k x → u.watches.lists ≡ written w.watches.lists l n x → (watch_at (watches_of u.watches.lists l) n).clause ≡ k
 written-clause clauses w u count l n k x b ew =
-    ap (λ (ls : List (List Watch)). (watch_at (watches_of ls l) n).clause) ew ∙ (ap (λ (ws : List Watch). (watch_at ws n).clause) (lists-same w.watches l (set (watches_of w.watches l) n x) b.list) ∙ (ap (λ (y : Watch). y.clause) (get_or-set_same (watches_of w.watches l) n x (record { blocker = pos 0; clause = 0; resume = 0; binary = false }) b.place) ∙ b.is_clause))
+    ap (λ (ls : List (List Watch)). (watch_at (watches_of ls l) n).clause) ew ∙ (ap (λ (ws : List Watch). (watch_at ws n).clause) (lists-same w.watches.lists l (set (watches_of w.watches.lists l) n x) b.list) ∙ (ap (λ (y : Watch). y.clause) (get_or-set_same (watches_of w.watches.lists l) n x (record { blocker = pos 0; clause = 0; binary = false }) b.place) ∙ b.is_clause))
 
 -- the list is as long as before
-pub written-length : (clauses : List (List ℤ)) (w u : Watched) (count : ℕ) (l : ℤ) (n k : ℕ) (x : Watch) → Blocks clauses w.watches count l n k x → u.watches ≡ written w.watches l n x → length (watches_of u.watches l) ≡ length (watches_of w.watches l)
+pub written-length : (clauses : List (List ℤ)) (w u : Watched) (count : ℕ) (l : ℤ) (n k : ℕ) (x : Watch) → Blocks clauses w.watches.lists count l n k x → u.watches.lists ≡ written w.watches.lists l n x → length (watches_of u.watches.lists l) ≡ length (watches_of w.watches.lists l)
 written-length clauses w u count l n k x b ew =
-    ap (λ (ls : List (List Watch)). length (watches_of ls l)) ew ∙ (ap (λ (ws : List Watch). length ws) (lists-same w.watches l (set (watches_of w.watches l) n x) b.list) ∙ length-set (watches_of w.watches l) n x)
+    ap (λ (ls : List (List Watch)). length (watches_of ls l)) ew ∙ (ap (λ (ws : List Watch). length ws) (lists-same w.watches.lists l (set (watches_of w.watches.lists l) n x) b.list) ∙ length-set (watches_of w.watches.lists l) n x)
 
 -- the literal's watch at a place was written
 pub record Blocked (clauses : List (List ℤ)) (w u : Watched) (l : ℤ) (n k : ℕ) (x : Watch) : Type 0 where
-  pub blocks : Blocks clauses w.watches (length w.pairs.items) l n k x
+  pub blocks : Blocks clauses w.watches.lists (length w.watches.pairs) l n k x
   pub ends : u.ends ≡ w.ends
-  pub pairs : u.pairs ≡ w.pairs
-  pub watches : u.watches ≡ written w.watches l n x
+  pub pairs : u.watches.pairs ≡ w.watches.pairs
+  pub texts : u.watches.texts ≡ w.watches.texts
+  pub watches : u.watches.lists ≡ written w.watches.lists l n x
 
-pub blocked-of : (clauses : List (List ℤ)) (w u : Watched) (p : Path) (head : ℕ) (l : ℤ) (n k resume : ℕ) (blocker : ℤ) → IsPath p → Turning clauses w p head l n → n < length (watches_of w.watches l) → (watch_at (watches_of w.watches l) n).clause ≡ k → has (clause_no clauses k) blocker ≡ true → u.ends ≡ w.ends → u.pairs ≡ w.pairs → u.watches ≡ written w.watches l n (record { blocker = blocker; clause = k; resume = resume; binary = false }) → Blocked clauses w u l n k (record { blocker = blocker; clause = k; resume = resume; binary = false })
-blocked-of clauses w u p head l n k resume blocker path t lt e m ee ep ew =
+pub blocked-of : (clauses : List (List ℤ)) (w u : Watched) (p : Path) (head : ℕ) (l : ℤ) (n : ℕ) (x : Watch) → IsPath p → Turning clauses w p head l n → n < length (watches_of w.watches.lists l) → (watch_at (watches_of w.watches.lists l) n).clause ≡ x.clause → x.binary ≡ false → has (clause_no clauses x.clause) x.blocker ≡ true → u.ends ≡ w.ends → u.watches.pairs ≡ w.watches.pairs → u.watches.texts ≡ w.watches.texts → u.watches.lists ≡ written w.watches.lists l n x → Blocked clauses w u l n x.clause x
+blocked-of clauses w u p head l n x path t lt e long m ee ep et ew =
     record {
       blocks = record {
-        list = code-inside p.vars w.watches l (head-within p head l path t.at) t.propagating.sized;
+        list = code-inside p.vars w.watches.lists l (head-within p head l path t.at) t.propagating.sized;
         nonzero = t.at.nonzero;
         place = lt;
         clause = e;
-        inside = read-inside clauses w p head l n k t lt e;
+        inside = read-inside clauses w p head l n x.clause t lt e;
         is_clause = refl;
         member = m;
-        is_long = refl;
+        is_long = long;
       };
       ends = ee;
       pairs = ep;
+      texts = et;
       watches = ew;
     }
 
 pub turning-blocked : (clauses : List (List ℤ)) (vars : ℕ) (w u : Watched) (p : Path) (head : ℕ) (l : ℤ) (n k : ℕ) (x : Watch) → AreWithin vars clauses → Turning clauses w p head l n → Blocked clauses w u l n k x → Turning clauses u p head l n
-turning-blocked clauses vars w u p head l n k x within t b = turning-written clauses vars w u p head l n n k x within t b.blocks b.ends b.pairs b.watches
+turning-blocked clauses vars w u p head l n k x within t b = turning-written clauses vars w u p head l n n k x within t b.blocks b.ends b.pairs b.texts b.watches
 
-pub clause-blocked : (clauses : List (List ℤ)) (w u : Watched) (l : ℤ) (n k : ℕ) (x : Watch) → Blocked clauses w u l n k x → (watch_at (watches_of u.watches l) n).clause ≡ k
-clause-blocked clauses w u l n k x b = written-clause clauses w u (length w.pairs.items) l n k x b.blocks b.watches
+pub clause-blocked : (clauses : List (List ℤ)) (w u : Watched) (l : ℤ) (n k : ℕ) (x : Watch) → Blocked clauses w u l n k x → (watch_at (watches_of u.watches.lists l) n).clause ≡ k
+clause-blocked clauses w u l n k x b = written-clause clauses w u (length w.watches.pairs) l n k x b.blocks b.watches
 
-pub length-blocked : (clauses : List (List ℤ)) (w u : Watched) (l : ℤ) (n k : ℕ) (x : Watch) → Blocked clauses w u l n k x → length (watches_of u.watches l) ≡ length (watches_of w.watches l)
-length-blocked clauses w u l n k x b = written-length clauses w u (length w.pairs.items) l n k x b.blocks b.watches
+pub length-blocked : (clauses : List (List ℤ)) (w u : Watched) (l : ℤ) (n k : ℕ) (x : Watch) → Blocked clauses w u l n k x → length (watches_of u.watches.lists l) ≡ length (watches_of w.watches.lists l)
+length-blocked clauses w u l n k x b = written-length clauses w u (length w.watches.pairs) l n k x b.blocks b.watches
 
 -- where the literal that blocks is true, the watch is done with
 pub stays-blocked : (clauses : List (List ℤ)) (vars : ℕ) (w u : Watched) (p : Path) (head : ℕ) (l : ℤ) (n k : ℕ) (x : Watch) → AreWithin vars clauses → Turning clauses w p head l n → Blocked clauses w u l n k x → has p.lits x.blocker ≡ true → Turning clauses u p head l (n + 1)
@@ -180,37 +185,34 @@ stays-blocked clauses vars w u p head l n k x within t b h =
     })
 
 -- the list is shorter after a look than before the watch was written
-pub fewer-blocked : (clauses : List (List ℤ)) (w u : Watched) (new : List (List Watch)) (l : ℤ) (n k : ℕ) (x : Watch) (r : Visit) → Blocked clauses w u l n k x → Fewer u.watches new l r → Fewer w.watches new l r
+pub fewer-blocked : (clauses : List (List ℤ)) (w u : Watched) (new : List (List Watch)) (l : ℤ) (n k : ℕ) (x : Watch) (r : Visit) → Blocked clauses w u l n k x → Fewer u.watches.lists new l r → Fewer w.watches.lists new l r
 fewer-blocked clauses w u new l n k x r b h = pick r h
   where
-    pick : (r : Visit) → Fewer u.watches new l r → Fewer w.watches new l r
+    pick : (r : Visit) → Fewer u.watches.lists new l r → Fewer w.watches.lists new l r
     pick Stays f = f ∙ length-blocked clauses w u l n k x b
     pick Goes f = f ∙ length-blocked clauses w u l n k x b
     pick (Stops j) f = tt
     pick Wants f = tt
 
--- the other watched literal, read before the watch was written
-pub other-read : (clauses : List (List ℤ)) (w : Watched) (p : Path) (head : ℕ) (l : ℤ) (n k : ℕ) (other : ℤ) (pair : Pair) → Turning clauses w p head l n → n < length (watches_of w.watches l) → (watch_at (watches_of w.watches l) n).clause ≡ k → pair ≡ get_or w.pairs.items k pair → IsOtherOf pair l other → IsOtherOf (pair_at w.pairs.items k) l other
-other-read clauses w p head l n k other pair t lt e is o = subst (λ (q : Pair). IsOtherOf q l other) (pair-read w.pairs.items k pair is (read-inside clauses w p head l n k t lt e)) o
-
-pub other-read-member : (clauses : List (List ℤ)) (w : Watched) (p : Path) (head : ℕ) (l : ℤ) (n k : ℕ) (other : ℤ) → Turning clauses w p head l n → n < length (watches_of w.watches l) → (watch_at (watches_of w.watches l) n).clause ≡ k → IsOtherOf (pair_at w.pairs.items k) l other → has (clause_no clauses k) other ≡ true
+-- the other watched literal is one of the clause
+pub other-read-member : (clauses : List (List ℤ)) (w : Watched) (p : Path) (head : ℕ) (l : ℤ) (n k : ℕ) (other : ℤ) → Turning clauses w p head l n → n < length (watches_of w.watches.lists l) → (watch_at (watches_of w.watches.lists l) n).clause ≡ k → IsOtherOf (pair_at w.watches.pairs k) l other → has (clause_no clauses k) other ≡ true
 other-read-member clauses w p head l n k other t lt e o = read-other clauses w p head l n k other t (read-inside clauses w p head l n k t lt e) o
 
 -- what goes on after the watch was written
-pub moves-blocked : (clauses : List (List ℤ)) (vars : ℕ) (w u : Watched) (p : Path) (head : ℕ) (l : ℤ) (n k resume : ℕ) (next other : ℤ) (x y : Watch) → AreWithin vars clauses → p.vars ≡ vars → Turning clauses w p head l n → Blocked clauses w u l n k x → IsOtherOf (pair_at w.pairs.items k) l other → IsOther p.lits (clause_no clauses k) other next → y ≡ record { blocker = other; clause = k; resume = resume; binary = false } → Moves clauses u.watches u.pairs.items p.lits l n y.clause next y.blocker y
-moves-blocked clauses vars w u p head l n k resume next other x y within ev t b o f e =
-    subst (λ (z : Watch). Moves clauses u.watches u.pairs.items p.lits l n z.clause next z.blocker z) (sym e)
-    (moves-of clauses u p head l n k resume next other (turning-blocked clauses vars w u p head l n k x within t b) lt (clause-blocked clauses w u l n k x b)
-    (subst (λ ps. IsOtherOf (pair_at (ps).items k) l other) (sym b.pairs) o) f (other-within clauses vars k p next ev within (read-inside-all clauses w p head l n k t b.blocks.place b.blocks.clause) f.member))
+pub moves-blocked : (clauses : List (List ℤ)) (vars : ℕ) (w u : Watched) (p : Path) (head : ℕ) (l : ℤ) (n k : ℕ) (next other : ℤ) (x y : Watch) → AreWithin vars clauses → p.vars ≡ vars → Turning clauses w p head l n → Blocked clauses w u l n k x → IsOtherOf (pair_at w.watches.pairs k) l other → IsOther p.lits (clause_no clauses k) other next → y ≡ record { blocker = other; clause = k; binary = false } → Moves clauses u.watches.lists u.watches.pairs p.lits l n y.clause next y.blocker y
+moves-blocked clauses vars w u p head l n k next other x y within ev t b o f e =
+    subst (λ (z : Watch). Moves clauses u.watches.lists u.watches.pairs p.lits l n z.clause next z.blocker z) (sym e)
+    (moves-of clauses u p head l n k next other (turning-blocked clauses vars w u p head l n k x within t b) lt (clause-blocked clauses w u l n k x b)
+    (subst (λ ps. IsOtherOf (pair_at ps k) l other) (sym b.pairs) o) f (other-within clauses vars k p next ev within (read-inside-all clauses w p head l n k t b.blocks.place b.blocks.clause) f.member))
   where
-    lt : n < length (watches_of u.watches l)
-    lt = let s : length (watches_of u.watches l) ≡ length (watches_of w.watches l) = length-blocked clauses w u l n k x b in let a : n < length (watches_of w.watches l) = b.blocks.place in omega (arith, s, a)
+    lt : n < length (watches_of u.watches.lists l)
+    lt = let s : length (watches_of u.watches.lists l) ≡ length (watches_of w.watches.lists l) = length-blocked clauses w u l n k x b in let a : n < length (watches_of w.watches.lists l) = b.blocks.place in omega (arith, s, a)
 
 -- the clause that goes on is one of the list
-pub moves-inside : (clauses : List (List ℤ)) (w : Watched) (p : Path) (head : ℕ) (l : ℤ) (n k : ℕ) (next other : ℤ) (x : Watch) → Turning clauses w p head l n → Moves clauses w.watches w.pairs.items p.lits l n k next other x → k < length clauses
+pub moves-inside : (clauses : List (List ℤ)) (w : Watched) (p : Path) (head : ℕ) (l : ℤ) (n k : ℕ) (next other : ℤ) (x : Watch) → Turning clauses w p head l n → Moves clauses w.watches.lists w.watches.pairs p.lits l n k next other x → k < length clauses
 moves-inside clauses w p head l n k next other x t m =
-    let a : k < length w.pairs.items = m.inside in
-    let b : length w.pairs.items ≤ length clauses = t.propagating.watching.count in
+    let a : k < length w.watches.pairs = m.inside in
+    let b : length w.watches.pairs ≤ length clauses = t.propagating.watching.watched.count in
     omega (arith, a, b)
 
 -- a search over both parts of a clause found nothing

@@ -26,7 +26,7 @@ clause_of-from n (suc k) (c ∷ cs) lt =
     cond-false (eqb n (n + suc k)) (Some c) (clause_of (numbered (n + 1) cs) (n + suc k)) (ne_eqb n (n + suc k) (λ e. omega (arith, e)))
     ∙ (ap (clause_of (numbered (n + 1) cs)) (omega arith) ∙ clause_of-from (n + 1) k cs (omega (arith, lt)))
 
-clause_of-numbered : (cs : List (List ℤ)) (id : ℕ) → 1 ≤ id → id ≤ length cs → clause_of (numbered 1 cs) id ≡ Some (clause_at cs id)
+pub clause_of-numbered : (cs : List (List ℤ)) (id : ℕ) → 1 ≤ id → id ≤ length cs → clause_of (numbered 1 cs) id ≡ Some (clause_at cs id)
 clause_of-numbered cs id a b = let e : id ≡ 1 + (id - 1) = omega (arith, a) in ap (clause_of (numbered 1 cs)) e ∙ clause_of-from 1 (id - 1) cs (omega (arith, a, b))
 
 follow-same : (live : Live) (t u : ℤ → Bool) (hs : List ℕ) → ((l : ℤ) → t l ≡ u l) → follow live t hs ≡ follow live u hs

@@ -25,3 +25,10 @@ pub mod Blocking
 pub mod Attaching
 pub mod Stamping
 pub mod Tracking
+pub mod Naming
+pub mod Deriving
+pub mod Segmenting
+pub mod Codes
+pub mod Packed
+pub mod Showing
+pub mod Looks

@@ -47,7 +47,7 @@ row-accepted clauses id c hints e w b d =
     (and_from (list_all (is_within clauses.vars) c) (not (has_both c)) (all-within clauses.vars c w) (not_from_false (has_both c) b))
     ∙ (cond-true (ltb (length clauses.clauses) id) (follow (numbered 1 clauses.clauses) (denied c) hints) (Some L2) (lt-ltb (length clauses.clauses) id (omega (arith, e))) ∙ d)
 
-row-after : (clauses : Clauses) (id : ℕ) (c : List ℤ) (hints : List ℕ) → id ≡ length clauses.clauses + 1 → after_row (start clauses) (Add id c hints) ≡ start (record clauses { clauses = clauses.clauses ++ c ∷ [] })
+pub row-after : (clauses : Clauses) (id : ℕ) (c : List ℤ) (hints : List ℕ) → id ≡ length clauses.clauses + 1 → after_row (start clauses) (Add id c hints) ≡ start (record clauses { clauses = clauses.clauses ++ c ∷ [] })
 row-after clauses id c hints e =
     let one : id ≡ length (clauses.clauses ++ c ∷ []) = e ∙ sym (length_push clauses.clauses c) in
     let live : numbered 1 clauses.clauses ++ (id, c) ∷ [] ≡ numbered 1 (clauses.clauses ++ c ∷ []) = ap (λ k. numbered 1 clauses.clauses ++ (k, c) ∷ []) (omega (arith, e)) ∙ sym (numbered-push 1 clauses.clauses c) in

@@ -8,12 +8,12 @@ use Rattle.std.specs.List.{All}
 use Rattle.hk_cnf.specs.Literal.{IsWithin, code_of, has}
 use Rattle.hk_cnf.specs.Clauses.{AreWithin}
 use Rattle.hk_cnf.proofs.Members.{all-has}
-use Rattle.hk_cdcl.specs.declared.watches.Watch.{Watch}
-use Rattle.hk_cdcl.specs.declared.watched.Pair.{Pair}
+use Rattle.hk_cdcl.specs.Looking.{IsOther, IsOtherOf}
+use Rattle.hk_cdcl.specs.Records.{pair_at, Pair}
+use Rattle.hk_cdcl.specs.Watches.{IsMoved, Watch, watches_of, watch_at}
 use Rattle.hk_cdcl.specs.declared.watched.Watched.{Watched}
 use Rattle.hk_cdcl.specs.Path.{Path, IsPath, Extends, lit_at}
-use Rattle.hk_cdcl.specs.Watches.{watches_of, watch_at}
-use Rattle.hk_cdcl.specs.Watching.{clause_no, pair_at, Lists, IsWatch, IsPair, IsOpen, IsTrueIn, Rests, AreWatched, AreResting, AreLater, IsAtHead, IsOther, IsOtherOf, IsMoved, Moves, Propagating, Turning, Visited, Settled, Fewer}
+use Rattle.hk_cdcl.specs.Watching.{clause_no, Lists, IsWatch, IsPair, IsOpen, IsTrueIn, Rests, AreWatched, AreTexts, AreResting, AreLater, IsAtHead, Moves, Propagating, Turning, Visited, Settled, Fewer}
 use Rattle.hk_cdcl.specs.Propagation.{IsConflict}
 use Rattle.hk_cdcl.specs.declared.watched.Visit.{Visit}
 use Rattle.hk_cdcl.specs.declared.watched.Visit.TheVariants.{Stays, Goes, Stops, Wants}
@@ -170,48 +170,51 @@ pub turning-extends : (clauses : List (List ℤ)) (w : Watched) (p q : Path) (he
 turning-extends clauses w p q head l from t e =
     record {
       propagating = record {
-        sized = subst (λ v. 2 * v ≤ length w.watches) (sym e.vars) t.propagating.sized;
+        sized = subst (λ v. 2 * v ≤ length w.watches.lists) (sym e.vars) t.propagating.sized;
         inside = let g : length p.lits ≤ length q.lits = extends-longer clauses p q e in let b : head ≤ length p.lits = t.propagating.inside in omega (arith, b, g);
-        watching = subst (AreWatched clauses w.watches w.pairs.items w.ends.items) (sym e.lits) (watched-append clauses w.watches w.pairs.items w.ends.items p.lits e.more t.propagating.watching);
-        resting = subst (λ ls. AreResting clauses w.pairs.items ls head) (sym e.lits) (resting-append clauses w.pairs.items p.lits e.more head t.propagating.inside t.propagating.resting);
+        watching = record { watched = subst (AreWatched clauses w.watches.lists w.watches.pairs w.ends.items) (sym e.lits) (watched-append clauses w.watches.lists w.watches.pairs w.ends.items p.lits e.more t.propagating.watching.watched); texts = t.propagating.watching.texts };
+        resting = subst (λ ls. AreResting clauses w.watches.pairs ls head) (sym e.lits) (resting-append clauses w.watches.pairs p.lits e.more head t.propagating.inside t.propagating.resting);
       };
       at = record {
         inside = let g : length p.lits ≤ length q.lits = extends-longer clauses p q e in let b : head < length p.lits = t.at.inside in omega (arith, b, g);
         is = ap (λ ls. lit_at ls head) e.lits ∙ (get_or_append_left p.lits e.more (pos 0) head t.at.inside ∙ t.at.is);
         nonzero = t.at.nonzero;
       };
-      later = subst (λ ls. AreLater clauses w.watches w.pairs.items ls head l from) (sym e.lits) (later-append clauses w.watches w.pairs.items p.lits e.more head l from t.at.inside t.later);
+      later = subst (λ ls. AreLater clauses w.watches.lists w.watches.pairs ls head l from) (sym e.lits) (later-append clauses w.watches.lists w.watches.pairs p.lits e.more head l from t.at.inside t.later);
     }
 
-pub turning-stays : (clauses : List (List ℤ)) (w : Watched) (p : Path) (head : ℕ) (l : ℤ) (from : ℕ) → Turning clauses w p head l from → IsTrueIn p.lits (clause_no clauses (watch_at (watches_of w.watches l) from).clause) → Turning clauses w p head l (from + 1)
-turning-stays clauses w p head l from t h = record { propagating = t.propagating; at = t.at; later = later-stays clauses w.watches w.pairs.items p.lits head l from h t.later }
+pub turning-stays : (clauses : List (List ℤ)) (w : Watched) (p : Path) (head : ℕ) (l : ℤ) (from : ℕ) → Turning clauses w p head l from → IsTrueIn p.lits (clause_no clauses (watch_at (watches_of w.watches.lists l) from).clause) → Turning clauses w p head l (from + 1)
+turning-stays clauses w p head l from t h = record { propagating = t.propagating; at = t.at; later = later-stays clauses w.watches.lists w.watches.pairs p.lits head l from h t.later }
 
-pub turning-goes : (clauses : List (List ℤ)) (vars : ℕ) (w u : Watched) (p : Path) (head : ℕ) (l : ℤ) (from k : ℕ) (next other : ℤ) (x : Watch) → AreWithin vars clauses → Turning clauses w p head l from → u.ends ≡ w.ends → u.pairs.items ≡ set w.pairs.items k (record { first = next; second = other }) → length u.watches ≡ length w.watches → IsMoved w.watches u.watches l from next x → Moves clauses w.watches w.pairs.items p.lits l from k next other x → Turning clauses u p head l from
-turning-goes clauses vars w u p head l from k next other x within t ee ep el mv m =
+pub turning-goes : (clauses : List (List ℤ)) (vars : ℕ) (w u : Watched) (p : Path) (head : ℕ) (l : ℤ) (from k : ℕ) (next other : ℤ) (x : Watch) → AreWithin vars clauses → Turning clauses w p head l from → u.ends ≡ w.ends → u.watches.pairs ≡ set w.watches.pairs k (record { first = next; second = other }) → length u.watches.lists ≡ length w.watches.lists → u.watches.texts ≡ w.watches.texts → IsMoved w.watches.lists u.watches.lists l from next x → Moves clauses w.watches.lists w.watches.pairs p.lits l from k next other x → Turning clauses u p head l from
+turning-goes clauses vars w u p head l from k next other x within t ee ep el et mv m =
     record {
       propagating = record {
-        sized = let s : 2 * p.vars ≤ length w.watches = t.propagating.sized in omega (arith, s, el);
+        sized = let s : 2 * p.vars ≤ length w.watches.lists = t.propagating.sized in omega (arith, s, el);
         inside = t.propagating.inside;
-        watching = subst (λ es. AreWatched clauses u.watches u.pairs.items (es).items p.lits) (sym ee) (subst (λ ps. AreWatched clauses u.watches ps w.ends.items p.lits) (sym ep)
-            (watched-moved clauses w.watches u.watches w.pairs.items w.ends.items p.lits l from k next other x t.at.nonzero (members-nonzero vars clauses (length w.pairs.items) within t.propagating.watching.count) t.propagating.watching mv m));
-        resting = subst (λ ps. AreResting clauses ps p.lits head) (sym ep) (resting-moved clauses w.watches w.pairs.items p.lits head l from k next other x t.propagating.inside t.propagating.resting m);
+        watching = record {
+          watched = subst (λ es. AreWatched clauses u.watches.lists u.watches.pairs (es).items p.lits) (sym ee) (subst (λ ps. AreWatched clauses u.watches.lists ps w.ends.items p.lits) (sym ep)
+              (watched-moved clauses w.watches.lists u.watches.lists w.watches.pairs w.ends.items p.lits l from k next other x t.at.nonzero (members-nonzero vars clauses (length w.watches.pairs) within t.propagating.watching.watched.count) t.propagating.watching.watched mv m));
+          texts = subst (AreTexts clauses) (sym et) t.propagating.watching.texts;
+        };
+        resting = subst (λ ps. AreResting clauses ps p.lits head) (sym ep) (resting-moved clauses w.watches.lists w.watches.pairs p.lits head l from k next other x t.propagating.inside t.propagating.resting m);
       };
       at = t.at;
-      later = subst (λ ps. AreLater clauses u.watches ps p.lits head l from) (sym ep) (later-moved clauses w.watches u.watches w.pairs.items p.lits head l from k next other x t.at t.propagating.resting t.later mv m);
+      later = subst (λ ps. AreLater clauses u.watches.lists ps p.lits head l from) (sym ep) (later-moved clauses w.watches.lists u.watches.lists w.watches.pairs p.lits head l from k next other x t.at t.propagating.resting t.later mv m);
     }
 
 -- the watch that is looked at, and the literal that became false
-pub watch-is : (clauses : List (List ℤ)) (w : Watched) (p : Path) (head : ℕ) (l : ℤ) (from : ℕ) → Turning clauses w p head l from → from < length (watches_of w.watches l) → IsWatch clauses (length w.pairs.items) l (watch_at (watches_of w.watches l) from)
-watch-is clauses w p head l from t lt = t.propagating.watching.watches l t.at.nonzero from (record { blocker = pos 0; clause = 0; resume = 0; binary = false }) lt
+pub watch-is : (clauses : List (List ℤ)) (w : Watched) (p : Path) (head : ℕ) (l : ℤ) (from : ℕ) → Turning clauses w p head l from → from < length (watches_of w.watches.lists l) → IsWatch clauses (length w.watches.pairs) l (watch_at (watches_of w.watches.lists l) from)
+watch-is clauses w p head l from t lt = t.propagating.watching.watched.watches l t.at.nonzero from (record { blocker = pos 0; clause = 0; binary = false }) lt
 
-pub watch-inside : (clauses : List (List ℤ)) (w : Watched) (p : Path) (head : ℕ) (l : ℤ) (from : ℕ) → Turning clauses w p head l from → from < length (watches_of w.watches l) → (watch_at (watches_of w.watches l) from).clause < length clauses
+pub watch-inside : (clauses : List (List ℤ)) (w : Watched) (p : Path) (head : ℕ) (l : ℤ) (from : ℕ) → Turning clauses w p head l from → from < length (watches_of w.watches.lists l) → (watch_at (watches_of w.watches.lists l) from).clause < length clauses
 watch-inside clauses w p head l from t lt =
-    let a : (watch_at (watches_of w.watches l) from).clause < length w.pairs.items = (watch-is clauses w p head l from t lt).inside in
-    let b : length w.pairs.items ≤ length clauses = t.propagating.watching.count in
+    let a : (watch_at (watches_of w.watches.lists l) from).clause < length w.watches.pairs = (watch-is clauses w p head l from t lt).inside in
+    let b : length w.watches.pairs ≤ length clauses = t.propagating.watching.watched.count in
     omega (arith, a, b)
 
-pub blocker-within : (clauses : List (List ℤ)) (w : Watched) (p : Path) (head : ℕ) (l : ℤ) (from : ℕ) → Turning clauses w p head l from → from < length (watches_of w.watches l) → AreWithin p.vars clauses → IsWithin p.vars (watch_at (watches_of w.watches l) from).blocker
-blocker-within clauses w p head l from t lt within = member-nonzero p.vars clauses (watch_at (watches_of w.watches l) from).clause (watch_at (watches_of w.watches l) from).blocker within (watch-inside clauses w p head l from t lt) (watch-is clauses w p head l from t lt).member
+pub blocker-within : (clauses : List (List ℤ)) (w : Watched) (p : Path) (head : ℕ) (l : ℤ) (from : ℕ) → Turning clauses w p head l from → from < length (watches_of w.watches.lists l) → AreWithin p.vars clauses → IsWithin p.vars (watch_at (watches_of w.watches.lists l) from).blocker
+blocker-within clauses w p head l from t lt within = member-nonzero p.vars clauses (watch_at (watches_of w.watches.lists l) from).clause (watch_at (watches_of w.watches.lists l) from).blocker within (watch-inside clauses w p head l from t lt) (watch-is clauses w p head l from t lt).member
 
 pub head-false : (lits : List ℤ) (head : ℕ) (l : ℤ) → IsAtHead lits head l → has lits (neg_ℤ l) ≡ true
 head-false lits head l at = has-member lits head (neg_ℤ l) at.inside at.is
@@ -230,7 +233,7 @@ pub code-inside : (vars : ℕ) (lists : List (List Watch)) (l : ℤ) → IsWithi
 code-inside vars lists l w s = let b : code_of l < 2 * vars = code_of-below vars l w in omega (arith, b, s)
 
 -- a clause that was looked at is true or false
-pub visited-settled : (clauses : List (List ℤ)) (w : Watched) (p q : Path) (head : ℕ) (l : ℤ) (from k : ℕ) (r : Visit) → Turning clauses w p head l from → Extends clauses p q → (watch_at (watches_of w.watches l) from).clause ≡ k → Settled clauses q.lits k r → Visited clauses w q head l from r
+pub visited-settled : (clauses : List (List ℤ)) (w : Watched) (p q : Path) (head : ℕ) (l : ℤ) (from k : ℕ) (r : Visit) → Turning clauses w p head l from → Extends clauses p q → (watch_at (watches_of w.watches.lists l) from).clause ≡ k → Settled clauses q.lits k r → Visited clauses w q head l from r
 visited-settled clauses w p q head l from k Stays t e is h = turning-stays clauses w q head l from (turning-extends clauses w p q head l from t e) (subst (λ i. IsTrueIn q.lits (clause_no clauses i)) (sym is) h)
 visited-settled clauses w p q head l from k Goes t e is h = absurd h
 visited-settled clauses w p q head l from k (Stops j) t e is h = ((turning-extends clauses w p q head l from t e).propagating.watching, subst (IsConflict clauses q.lits) (sym h.0) h.1)
@@ -246,30 +249,30 @@ pub fewer-moved : (lists new : List (List Watch)) (l : ℤ) (n : ℕ) (next : �
 fewer-moved lists new l n next w lt h = ap (λ (ws : List Watch). length ws + 1) h.from ∙ length-removed (watches_of lists l) n (watch_at (watches_of lists l) n) lt
 
 -- the same of a watch that was read
-pub read-within : (clauses : List (List ℤ)) (vars : ℕ) (w : Watched) (p : Path) (head : ℕ) (l : ℤ) (from : ℕ) (x : Watch) → Turning clauses w p head l from → from < length (watches_of w.watches l) → p.vars ≡ vars → AreWithin vars clauses → x ≡ watch_at (watches_of w.watches l) from → IsWithin p.vars x.blocker
+pub read-within : (clauses : List (List ℤ)) (vars : ℕ) (w : Watched) (p : Path) (head : ℕ) (l : ℤ) (from : ℕ) (x : Watch) → Turning clauses w p head l from → from < length (watches_of w.watches.lists l) → p.vars ≡ vars → AreWithin vars clauses → x ≡ watch_at (watches_of w.watches.lists l) from → IsWithin p.vars x.blocker
 read-within clauses vars w p head l from x t lt ev within e = subst (λ (y : Watch). IsWithin p.vars y.blocker) (sym e) (blocker-within clauses w p head l from t lt (subst (λ n. AreWithin n clauses) (sym ev) within))
 
-pub read-stays : (clauses : List (List ℤ)) (w : Watched) (p : Path) (head : ℕ) (l : ℤ) (from : ℕ) (x : Watch) → Turning clauses w p head l from → from < length (watches_of w.watches l) → x ≡ watch_at (watches_of w.watches l) from → has p.lits x.blocker ≡ true → Turning clauses w p head l (from + 1)
+pub read-stays : (clauses : List (List ℤ)) (w : Watched) (p : Path) (head : ℕ) (l : ℤ) (from : ℕ) (x : Watch) → Turning clauses w p head l from → from < length (watches_of w.watches.lists l) → x ≡ watch_at (watches_of w.watches.lists l) from → has p.lits x.blocker ≡ true → Turning clauses w p head l (from + 1)
 read-stays clauses w p head l from x t lt e h =
     turning-stays clauses w p head l from t (record {
       literal = x.blocker;
-      member = ap (has (clause_no clauses (watch_at (watches_of w.watches l) from).clause)) (ap (λ (y : Watch). y.blocker) e) ∙ (watch-is clauses w p head l from t lt).member;
+      member = ap (has (clause_no clauses (watch_at (watches_of w.watches.lists l) from).clause)) (ap (λ (y : Watch). y.blocker) e) ∙ (watch-is clauses w p head l from t lt).member;
       holds = h;
     })
 
-pub read-others : (clauses : List (List ℤ)) (w : Watched) (p : Path) (head : ℕ) (l : ℤ) (from : ℕ) (x : Watch) → Turning clauses w p head l from → from < length (watches_of w.watches l) → x ≡ watch_at (watches_of w.watches l) from → x.binary ≡ true → All (λ y. (x.blocker ≡ y) ⊎ (has p.lits (neg_ℤ y) ≡ true)) (clause_no clauses x.clause)
+pub read-others : (clauses : List (List ℤ)) (w : Watched) (p : Path) (head : ℕ) (l : ℤ) (from : ℕ) (x : Watch) → Turning clauses w p head l from → from < length (watches_of w.watches.lists l) → x ≡ watch_at (watches_of w.watches.lists l) from → x.binary ≡ true → All (λ y. (x.blocker ≡ y) ⊎ (has p.lits (neg_ℤ y) ≡ true)) (clause_no clauses x.clause)
 read-others clauses w p head l from x t lt e b =
-    let s : IsWatch clauses (length w.pairs.items) l x = subst (λ (y : Watch). IsWatch clauses (length w.pairs.items) l y) (sym e) (watch-is clauses w p head l from t lt) in
+    let s : IsWatch clauses (length w.watches.pairs) l x = subst (λ (y : Watch). IsWatch clauses (length w.watches.pairs) l y) (sym e) (watch-is clauses w p head l from t lt) in
     binary-others p.lits (clause_no clauses x.clause) l x.blocker (head-false p.lits head l t.at) (s.binary b)
 
 -- the other watched literal of the clause that is looked at
-pub read-other : (clauses : List (List ℤ)) (w : Watched) (p : Path) (head : ℕ) (l : ℤ) (from k : ℕ) (other : ℤ) → Turning clauses w p head l from → k < length w.pairs.items → IsOtherOf (pair_at w.pairs.items k) l other → has (clause_no clauses k) other ≡ true
-read-other clauses w p head l from k other t lt o = (other-member clauses w.watches w.pairs.items l k other (t.propagating.watching.paired k lt) o).0
+pub read-other : (clauses : List (List ℤ)) (w : Watched) (p : Path) (head : ℕ) (l : ℤ) (from k : ℕ) (other : ℤ) → Turning clauses w p head l from → k < length w.watches.pairs → IsOtherOf (pair_at w.watches.pairs k) l other → has (clause_no clauses k) other ≡ true
+read-other clauses w p head l from k other t lt o = (other-member clauses w.watches.lists w.watches.pairs l k other (t.propagating.watching.watched.paired k lt) o).0
 
-pub read-inside : (clauses : List (List ℤ)) (w : Watched) (p : Path) (head : ℕ) (l : ℤ) (from k : ℕ) → Turning clauses w p head l from → from < length (watches_of w.watches l) → (watch_at (watches_of w.watches l) from).clause ≡ k → k < length w.pairs.items
-read-inside clauses w p head l from k t lt e = subst (λ i. i < length w.pairs.items) e (watch-is clauses w p head l from t lt).inside
+pub read-inside : (clauses : List (List ℤ)) (w : Watched) (p : Path) (head : ℕ) (l : ℤ) (from k : ℕ) → Turning clauses w p head l from → from < length (watches_of w.watches.lists l) → (watch_at (watches_of w.watches.lists l) from).clause ≡ k → k < length w.watches.pairs
+read-inside clauses w p head l from k t lt e = subst (λ i. i < length w.watches.pairs) e (watch-is clauses w p head l from t lt).inside
 
-pub read-inside-all : (clauses : List (List ℤ)) (w : Watched) (p : Path) (head : ℕ) (l : ℤ) (from k : ℕ) → Turning clauses w p head l from → from < length (watches_of w.watches l) → (watch_at (watches_of w.watches l) from).clause ≡ k → k < length clauses
+pub read-inside-all : (clauses : List (List ℤ)) (w : Watched) (p : Path) (head : ℕ) (l : ℤ) (from k : ℕ) → Turning clauses w p head l from → from < length (watches_of w.watches.lists l) → (watch_at (watches_of w.watches.lists l) from).clause ≡ k → k < length clauses
 read-inside-all clauses w p head l from k t lt e = subst (λ i. i < length clauses) e (watch-inside clauses w p head l from t lt)
 
 pub other-within : (clauses : List (List ℤ)) (vars k : ℕ) (p : Path) (x : ℤ) → p.vars ≡ vars → AreWithin vars clauses → k < length clauses → has (clause_no clauses k) x ≡ true → IsWithin p.vars x
@@ -280,8 +283,8 @@ pub left-apart : (lits : List ℤ) (head : ℕ) (l next : ℤ) → IsAtHead lits
 left-apart lits head l next at h e = false≢true (sym h ∙ (ap (λ x. has lits (neg_ℤ x)) e ∙ head-false lits head l at))
 
 -- the move of `rewatch`
-pub moves-of : (clauses : List (List ℤ)) (w : Watched) (p : Path) (head : ℕ) (l : ℤ) (from k resume : ℕ) (next other : ℤ) → Turning clauses w p head l from → from < length (watches_of w.watches l) → (watch_at (watches_of w.watches l) from).clause ≡ k → IsOtherOf (pair_at w.pairs.items k) l other → IsOther p.lits (clause_no clauses k) other next → IsWithin p.vars next → Moves clauses w.watches w.pairs.items p.lits l from k next other (record { blocker = other; clause = k; resume = resume; binary = false })
-moves-of clauses w p head l from k resume next other t lt e o f wn =
+pub moves-of : (clauses : List (List ℤ)) (w : Watched) (p : Path) (head : ℕ) (l : ℤ) (from k : ℕ) (next other : ℤ) → Turning clauses w p head l from → from < length (watches_of w.watches.lists l) → (watch_at (watches_of w.watches.lists l) from).clause ≡ k → IsOtherOf (pair_at w.watches.pairs k) l other → IsOther p.lits (clause_no clauses k) other next → IsWithin p.vars next → Moves clauses w.watches.lists w.watches.pairs p.lits l from k next other (record { blocker = other; clause = k; binary = false })
+moves-of clauses w p head l from k next other t lt e o f wn =
     record {
       place = lt;
       clause = e;
@@ -295,29 +298,25 @@ moves-of clauses w p head l from k resume next other t lt e o f wn =
       is_long = refl;
     }
 
--- the other watched literal as the code reads it
-pub pair-read : (pairs : List Pair) (k : ℕ) (x : Pair) → x ≡ get_or pairs k x → k < length pairs → x ≡ pair_at pairs k
-pair-read pairs k x e lt = e ∙ get_or_default pairs k x (record { first = pos 0; second = pos 0 }) lt
-
 -- a turn begins, and ends
 pub turning-begins : (clauses : List (List ℤ)) (w : Watched) (p : Path) (head : ℕ) (l : ℤ) → Propagating clauses w p head → head < length p.lits → l ≡ neg_ℤ (lit_at p.lits head) → l ≢ pos 0 → Turning clauses w p head l 0
 turning-begins clauses w p head l h lt e nz =
     record {
       propagating = h;
       at = at;
-      later = later-begins clauses w.watches w.pairs.items w.ends.items p.lits head l h.watching h.resting at;
+      later = later-begins clauses w.watches.lists w.watches.pairs w.ends.items p.lits head l h.watching.watched h.resting at;
     }
   where
     at : IsAtHead p.lits head l
     at = record { inside = lt; is = sym (neg-neg (lit_at p.lits head)) ∙ ap neg_ℤ (sym e); nonzero = nz }
 
-pub turning-ends : (clauses : List (List ℤ)) (w : Watched) (p : Path) (head : ℕ) (l : ℤ) (from : ℕ) → Turning clauses w p head l from → length (watches_of w.watches l) ≤ from → Propagating clauses w p (head + 1)
+pub turning-ends : (clauses : List (List ℤ)) (w : Watched) (p : Path) (head : ℕ) (l : ℤ) (from : ℕ) → Turning clauses w p head l from → length (watches_of w.watches.lists l) ≤ from → Propagating clauses w p (head + 1)
 turning-ends clauses w p head l from t le =
     record {
       sized = t.propagating.sized;
       inside = let b : head < length p.lits = t.at.inside in omega (arith, b);
       watching = t.propagating.watching;
-      resting = later-ends clauses w.watches w.pairs.items p.lits head l from le t.later;
+      resting = later-ends clauses w.watches.lists w.watches.pairs p.lits head l from le t.later;
     }
 
 pub propagating-whole : (clauses : List (List ℤ)) (w : Watched) (p : Path) (head n : ℕ) → Propagating clauses w p head → n ≡ length p.lits → n ≤ head → Propagating clauses w p (length p.lits)

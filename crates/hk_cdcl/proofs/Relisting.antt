@@ -8,9 +8,8 @@ use Rattle.std.specs.List.{All, swap_remove}
 use Rattle.std.specs.Ordering.{int_eq}
 use Rattle.hk_cnf.specs.Literal.{code_of}
 use Rattle.hk_cnf.proofs.Members.{int_eq-is, int_eq-not}
-use Rattle.hk_cdcl.specs.declared.watches.Watch.{Watch}
-use Rattle.hk_cdcl.specs.Watches.{watches_of, watch_at}
-use Rattle.hk_cdcl.specs.Watching.{Lists, IsWatch, IsMoved}
+use Rattle.hk_cdcl.specs.Watches.{IsMoved, Watch, watches_of, watch_at}
+use Rattle.hk_cdcl.specs.Watching.{Lists, IsWatch}
 use Rattle.hk_cdcl.proofs.Places.{code_of-same}
 
 -- one literal's list is written
@@ -27,7 +26,7 @@ lists-push ws w from k h =
       place = h.place;
       after = h.after;
       inside = let b : h.place < length ws = h.inside in let n : length (ws ++ w ∷ []) ≡ length ws + 1 = length_push ws w in omega (arith, b, n);
-      is = ap (λ (x : Watch). x.clause) (get_or_append_left ws (w ∷ []) (record { blocker = pos 0; clause = 0; resume = 0; binary = false }) h.place h.inside) ∙ h.is;
+      is = ap (λ (x : Watch). x.clause) (get_or_append_left ws (w ∷ []) (record { blocker = pos 0; clause = 0; binary = false }) h.place h.inside) ∙ h.is;
     }
 
 pub lists-last : (ws : List Watch) (w : Watch) → Lists (ws ++ w ∷ []) 0 w.clause
@@ -36,7 +35,7 @@ lists-last ws w =
       place = length ws + 0;
       after = omega arith;
       inside = let n : length (ws ++ w ∷ []) ≡ length ws + 1 = length_push ws w in omega (arith, n);
-      is = ap (λ (x : Watch). x.clause) (get_or-append-add ws (w ∷ []) 0 (record { blocker = pos 0; clause = 0; resume = 0; binary = false }));
+      is = ap (λ (x : Watch). x.clause) (get_or-append-add ws (w ∷ []) 0 (record { blocker = pos 0; clause = 0; binary = false }));
     }
 
 -- a watch less: those of other clauses stay
@@ -59,7 +58,7 @@ lists-removed ws n from k d lt le other h = pick (cases_eq h.place (length ws - 
     differs e = other (ap (λ i. (watch_at ws i).clause) e ∙ h.is)
 
     at : (i : ℕ) → i < length ws - 1 → watch_at (swap_remove ws n d) i ≡ watch_at (set ws n (get_or ws (length ws - 1) d)) i
-    at i b = get_or-take (length ws - 1) (set ws n (get_or ws (length ws - 1) d)) i (record { blocker = pos 0; clause = 0; resume = 0; binary = false }) b
+    at i b = get_or-take (length ws - 1) (set ws n (get_or ws (length ws - 1) d)) i (record { blocker = pos 0; clause = 0; binary = false }) b
 
     pick : (h.place ≡ length ws - 1) ⊎ (h.place ≢ length ws - 1) → Lists (swap_remove ws n d) from k
     pick (inl e) =
@@ -68,8 +67,8 @@ lists-removed ws n from k d lt le other h = pick (cases_eq h.place (length ws - 
           place = n;
           after = le;
           inside = omega (arith, b, short);
-          is = ap (λ (x : Watch). x.clause) (at n b ∙ (get_or-set_same ws n (get_or ws (length ws - 1) d) (record { blocker = pos 0; clause = 0; resume = 0; binary = false }) lt
-              ∙ (get_or_default ws (length ws - 1) d (record { blocker = pos 0; clause = 0; resume = 0; binary = false }) (omega (arith, lt)) ∙ ap (watch_at ws) (sym e)))) ∙ h.is;
+          is = ap (λ (x : Watch). x.clause) (at n b ∙ (get_or-set_same ws n (get_or ws (length ws - 1) d) (record { blocker = pos 0; clause = 0; binary = false }) lt
+              ∙ (get_or_default ws (length ws - 1) d (record { blocker = pos 0; clause = 0; binary = false }) (omega (arith, lt)) ∙ ap (watch_at ws) (sym e)))) ∙ h.is;
         }
     pick (inr e) =
         let b : h.place < length ws - 1 = let i : h.place < length ws = h.inside in omega (arith, i, e) in
@@ -77,7 +76,7 @@ lists-removed ws n from k d lt le other h = pick (cases_eq h.place (length ws - 
           place = h.place;
           after = h.after;
           inside = omega (arith, b, short);
-          is = ap (λ (x : Watch). x.clause) (at h.place b ∙ get_or-set_other ws n h.place (get_or ws (length ws - 1) d) (record { blocker = pos 0; clause = 0; resume = 0; binary = false }) (λ s. differs (sym s))) ∙ h.is;
+          is = ap (λ (x : Watch). x.clause) (at h.place b ∙ get_or-set_other ws n h.place (get_or ws (length ws - 1) d) (record { blocker = pos 0; clause = 0; binary = false }) (λ s. differs (sym s))) ∙ h.is;
         }
 
 all-removed : (P : Watch → Type 0) (ws : List Watch) (n : ℕ) (d : Watch) → n < length ws → All P ws → All P (swap_remove ws n d)

@@ -10,13 +10,12 @@ use Rattle.hk_cnf.specs.Literal.{IsWithin, has}
 use Rattle.hk_cnf.specs.Hint.{hint_of}
 use Rattle.hk_cnf.proofs.Members.{has-left, int_eq-is}
 use Rattle.hk_cnf.proofs.Tells.{hint-single, hint-false, hint-several}
-use Rattle.hk_cdcl.specs.declared.watches.Watch.{Watch}
-use Rattle.hk_cdcl.specs.declared.watched.Pair.{Pair}
+use Rattle.hk_cdcl.specs.Records.{pair_at, Pair}
+use Rattle.hk_cdcl.specs.Watches.{Watch, watches_of, watch_at}
 use Rattle.hk_cdcl.specs.Fresh.{AreQuiet}
 use Rattle.hk_cdcl.specs.Path.{Path, IsPath, AreApart, Extends, with_step, lit_at}
 use Rattle.hk_cdcl.specs.Propagation.{IsConflict}
-use Rattle.hk_cdcl.specs.Watches.{watches_of, watch_at}
-use Rattle.hk_cdcl.specs.Watching.{clause_no, pair_at, Lists, IsOpen, IsTrueIn, Rests, AreWatched, AreResting, AreLater, IsAtHead}
+use Rattle.hk_cdcl.specs.Watching.{clause_no, Lists, IsOpen, IsTrueIn, Rests, AreWatched, AreResting, AreLater, IsAtHead}
 use Rattle.hk_cdcl.proofs.Places.{has-more, apart-consistent, neg-neg}
 use Rattle.hk_cdcl.proofs.Extending.{extends-unit}
 

@@ -7,9 +7,16 @@ pub mod Learning
 pub mod Searching
 pub mod Solved
 pub mod States
+pub mod Names
 pub mod Ends
+pub mod Records
+pub mod Packing
+pub mod Slots
+pub mod Looking
+pub mod Plain
 pub mod Watches
 pub mod Watching
 pub mod Order
 pub mod Held
 pub mod Rounds
+pub mod Forgetting

@@ -2,12 +2,13 @@
 use Rattle.std.specs.Prelude.{◌≡◌, ℕ, ◌+◌, ◌≤◌, [], ◌∷◌, ◌++◌, List, length, take, ℤ}
 use Rattle.hk_cnf.specs.Clauses.{Clauses}
 use Rattle.hk_lrat.specs.declared.log.LratRow.{LratRow}
-use Rattle.hk_lrat.specs.Refutes.{Refutes}
+use Rattle.hk_lrat.specs.declared.log.LratRow.TheVariants.{Add}
 use Rattle.hk_cdcl.specs.declared.search.Search.{Search}
 use Rattle.hk_cdcl.specs.declared.search.Step.{Step}
 use Rattle.hk_cdcl.specs.declared.search.Step.TheVariants.{Decided, Back, Ended}
 use Rattle.hk_cdcl.specs.declared.search.Found.{Found}
 use Rattle.hk_cdcl.specs.declared.search.Found.TheVariants.{Sat, Unsat, Spent}
+use Rattle.hk_cdcl.specs.Analysis.{Derives}
 use Rattle.hk_cdcl.specs.Fresh.{AreFresh, additions}
 use Rattle.hk_cdcl.specs.Solved.{Satisfies}
 use Rattle.hk_cdcl.specs.Searching.{IsLogged, IsLeveled}
@@ -51,9 +52,11 @@ pub record IsRestarted (old new : Search) (n : ℕ) : Type 0 where
   pub lits : new.trail.lits ≡ take n old.trail.lits
   pub inside : n ≤ length old.trail.lits
 
--- with this row, which adds the empty clause, the log refutes the list
-abbrev pub Closes : Search → LratRow → Type 0
-Closes s row = (given : Clauses) → IsLogged given s.clauses s.log → Refutes given (s.log ++ row ∷ [])
+-- the row adds the empty clause, which its hints derive
+pub record Closes (s : Search) (row : LratRow) : Type 0 where
+  pub hints : List ℕ
+  pub is : row ≡ Add (length s.clauses.clauses + 1) [] hints
+  pub derived : Derives s.clauses.clauses [] hints
 
 -- what the search came to
 abbrev pub Finds : Search → Found → Type 0

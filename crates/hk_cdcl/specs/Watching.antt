@@ -2,8 +2,6 @@
 use Rattle.std.specs.Prelude.{◌≡◌, ◌≢◌, ◌⊎◌, ℕ, ◌+◌, ◌*◌, ◌<◌, ◌≤◌, true, false, List, [], ◌∷◌, ◌++◌, length, take, ℤ, pos, neg_ℤ, slice_index_or, slice_index, slice_set, Bool, ◌-◌}
 use Rattle.std.specs.List.{All, AllPairs, swap_remove}
 use Rattle.hk_cnf.specs.Literal.{code_of, has}
-use Rattle.hk_cdcl.specs.declared.watches.Watch.{Watch}
-use Rattle.hk_cdcl.specs.declared.watched.Pair.{Pair}
 use Rattle.hk_cdcl.specs.declared.watched.Watched.{Watched}
 use Rattle.hk_cdcl.specs.declared.watched.Visit.{Visit}
 use Rattle.hk_cdcl.specs.declared.watched.Visit.TheVariants.{Stays, Goes, Stops, Wants}
@@ -12,15 +10,13 @@ use Rattle.hk_cdcl.specs.declared.watched.Outcome.TheVariants.{Quiet, Conflict, 
 use Rattle.hk_cdcl.specs.Fresh.{AreQuiet}
 use Rattle.hk_cdcl.specs.Path.{Path, lit_at}
 use Rattle.hk_cdcl.specs.Propagation.{IsConflict}
-use Rattle.hk_cdcl.specs.Watches.{watches_of, watch_at, IsSame}
+use Rattle.hk_cdcl.specs.Records.{Pair, pair_at}
+use Rattle.hk_cdcl.specs.Watches.{Watch, Plain, watches_of, watch_at, IsSame, with_both}
+use Rattle.hk_cdcl.specs.Looking.{IsOther, IsOtherOf}
 
 -- the clause at a place
 abbrev pub clause_no : List (List ℤ) → ℕ → List ℤ
 clause_no clauses k = slice_index_or clauses k []
-
--- the watched literals of the clause at a place
-abbrev pub pair_at : List Pair → ℕ → Pair
-pair_at pairs k = slice_index_or pairs k (record { first = pos 0; second = pos 0 })
 
 -- from a place of the list on a watch names the clause
 pub record Lists (ws : List Watch) (from k : ℕ) : Type 0 where
@@ -68,8 +64,13 @@ pub record AreWatched (clauses : List (List ℤ)) (lists : List (List Watch)) (p
   pub inside : All (λ e. e ≤ length lits) ends
   pub ended : (k : ℕ) → k < length pairs → All (λ e. Rests (take e lits) (take e lits) (clause_no clauses k) (pair_at pairs k)) ends
 
-abbrev pub Watching : List (List ℤ) → Watched → List ℤ → Type 0
-Watching clauses w lits = AreWatched clauses w.watches w.pairs.items w.ends.items lits
+-- the records have the literals of the first clauses
+pub record AreTexts (clauses texts : List (List ℤ)) : Type 0 where
+  pub is : texts ≡ take (length texts) clauses
+
+pub record Watching (clauses : List (List ℤ)) (w : Watched) (lits : List ℤ) : Type 0 where
+  pub watched : AreWatched clauses w.watches.lists w.watches.pairs w.ends.items lits
+  pub texts : AreTexts clauses w.watches.texts
 
 -- the state may serve these clauses, having seen these literals
 abbrev pub Fits : Watched → List (List ℤ) → List ℤ → Type 0
@@ -81,10 +82,10 @@ pub record AreResting (clauses : List (List ℤ)) (pairs : List Pair) (lits : Li
 
 -- the literals before `head` were looked at
 pub record Propagating (clauses : List (List ℤ)) (w : Watched) (p : Path) (head : ℕ) : Type 0 where
-  pub sized : 2 * p.vars ≤ length w.watches
+  pub sized : 2 * p.vars ≤ length w.watches.lists
   pub inside : head ≤ length p.lits
   pub watching : Watching clauses w p.lits
-  pub resting : AreResting clauses w.pairs.items p.lits head
+  pub resting : AreResting clauses w.watches.pairs p.lits head
 
 -- behind `head` a clause rests, or the watches of l from a place on name it
 pub record AreLater (clauses : List (List ℤ)) (lists : List (List Watch)) (pairs : List Pair) (lits : List ℤ) (head : ℕ) (l : ℤ) (from : ℕ) : Type 0 where
@@ -100,7 +101,7 @@ pub record IsAtHead (lits : List ℤ) (head : ℕ) (l : ℤ) : Type 0 where
 pub record Turning (clauses : List (List ℤ)) (w : Watched) (p : Path) (head : ℕ) (l : ℤ) (from : ℕ) : Type 0 where
   pub propagating : Propagating clauses w p head
   pub at : IsAtHead p.lits head l
-  pub later : AreLater clauses w.watches w.pairs.items p.lits head l from
+  pub later : AreLater clauses w.watches.lists w.watches.pairs p.lits head l from
 
 -- what a look at a watch came to
 abbrev pub Visited : List (List ℤ) → Watched → Path → ℕ → ℤ → ℕ → Visit → Type 0
@@ -129,37 +130,10 @@ Came clauses w p head Quiet = Propagating clauses w p head
 Came clauses w p head (Conflict k) = Watching clauses w p.lits × IsConflict clauses p.lits k
 Came clauses w p head Full = Unit {0}
 
--- the watched literals are these two, which differ
-pub record IsOtherOf (pair : Pair) (l other : ℤ) : Type 0 where
-  pub apart : l ≢ other
-  pub is : ((pair.first ≡ l) × (pair.second ≡ other)) ⊎ ((pair.first ≡ other) × (pair.second ≡ l))
-
--- the watch at a place of the list of l went, and this one came to the list of next
-pub record IsMoved (lists new : List (List Watch)) (l : ℤ) (n : ℕ) (next : ℤ) (w : Watch) : Type 0 where
-  pub from : watches_of new l ≡ swap_remove (watches_of lists l) n (watch_at (watches_of lists l) n)
-  pub to : watches_of new next ≡ watches_of lists next ++ w ∷ []
-  pub others : (m : ℤ) → m ≢ pos 0 → m ≢ l → m ≢ next → watches_of new m ≡ watches_of lists m
-
 -- a literal of the clause that is not false
 pub record IsLeft (lits : List ℤ) (c : List ℤ) (l : ℤ) : Type 0 where
   pub member : has c l ≡ true
   pub left : has lits (neg_ℤ l) ≡ false
-
--- the same of another literal than k
-pub record IsOther (lits : List ℤ) (c : List ℤ) (k l : ℤ) : Type 0 where
-  pub member : has c l ≡ true
-  pub left : has lits (neg_ℤ l) ≡ false
-  pub other : k ≢ l
-
--- the literal at this place of the clause is neither false nor k
-pub record IsLeftAt (lits : List ℤ) (c : List ℤ) (k : ℤ) (place : ℕ) : Type 0 where
-  pub inside : place < length c
-  pub left : has lits (neg_ℤ (lit_at c place)) ≡ false
-  pub other : k ≢ lit_at c place
-
--- between two places all literals of the clause but k are false
-abbrev pub AreFalseBetween : List ℤ → List ℤ → ℤ → ℕ → ℕ → Type 0
-AreFalseBetween lits c k from to = (n : ℕ) → from ≤ n → n < to → (k ≡ lit_at c n) ⊎ (has lits (neg_ℤ (lit_at c n)) ≡ true)
 
 -- what a move needs: next is another literal of the clause of the n-th watch of l that is not false
 pub record Moves (clauses : List (List ℤ)) (lists : List (List Watch)) (pairs : List Pair) (lits : List ℤ) (l : ℤ) (n k : ℕ) (next other : ℤ) (w : Watch) : Type 0 where
@@ -188,14 +162,14 @@ pub record IsFront (old new : List ℕ) : Type 0 where
 pub record IsEnded (ends : List ℕ) (lits c : List ℤ) (pair : Pair) : Type 0 where
   pub each : All (λ e. Rests (take e lits) (take e lits) c pair) ends
 
--- a watch of l came at the end of its list
-abbrev pub with_watch : List (List Watch) → ℤ → Watch → List (List Watch)
-with_watch lists l w = slice_set lists (code_of l) (watches_of lists l ++ w ∷ [])
-
--- both watches of a clause came
-abbrev pub with_both : List (List Watch) → ℤ → ℤ → ℕ → Bool → List (List Watch)
-with_both lists first second k binary =
-    with_watch (with_watch lists first (record { blocker = second; clause = k; resume = 0; binary = binary })) second (record { blocker = first; clause = k; resume = 0; binary = binary })
+-- the next clause came under watch by two of its literals
+pub record IsAttached (c : List ℤ) (old new : Plain) (first second : ℤ) : Type 0 where
+  pub binary : Bool
+  pub only : binary ≡ true → All (λ x. (second ≡ x) ⊎ (first ≡ x)) c
+  pub lists : new.lists ≡ with_both old.lists first second (length old.pairs) binary
+  pub pairs : new.pairs ≡ old.pairs ++ (record { first = first; second = second }) ∷ []
+  pub texts : new.texts ≡ old.texts ++ c ∷ []
+  pub count : length old.texts ≡ length old.pairs
 
 -- an end came, where the trail grew since the last one
 abbrev pub EndsMore : List ℕ → List ℕ → ℕ → Type 0
@@ -205,7 +179,7 @@ EndsMore old new n = (new ≡ old) ⊎ ((new ≡ old ++ n ∷ []) × ((0 < lengt
 pub record Begins (clauses : List (List ℤ)) (w : Watched) (lits : List ℤ) (start : ℕ) : Type 0 where
   pub inside : start ≤ length lits
   pub watching : Watching clauses w lits
-  pub resting : AreResting clauses w.pairs.items lits start
+  pub resting : AreResting clauses w.watches.pairs lits start
 
 -- where nothing is left to do
 abbrev pub IfQuiet : Outcome → Type 0 → Type 0
@@ -221,6 +195,7 @@ Propagated clauses w lits Full = Unit {0}
 
 -- nothing changed but the room, and empty lists that came
 pub record HasRoom (old new : Watched) : Type 0 where
-  pub watches : IsSame old.watches new.watches
-  pub pairs : new.pairs.items ≡ old.pairs.items
+  pub watches : IsSame old.watches.lists new.watches.lists
+  pub pairs : new.watches.pairs ≡ old.watches.pairs
+  pub texts : new.watches.texts ≡ old.watches.texts
   pub ends : new.ends.items ≡ old.ends.items

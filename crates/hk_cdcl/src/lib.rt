@@ -4,15 +4,21 @@
 //! list, or a log that spent its budget on clauses which unit propagation did not give, goes out.
 #![tactic(auto)]
 
+mod active;
 mod analyze;
+mod call;
 mod learn;
+mod lists;
 mod minimize;
+mod names;
 mod order;
 mod propagate;
+mod records;
 mod restarts;
 mod scan;
 mod search;
 mod seen;
+mod segments;
 mod solver;
 mod trail;
 mod watched;

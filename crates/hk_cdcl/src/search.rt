@@ -197,7 +197,7 @@ impl Search {
 }
 
 /// Adds a clause with its row at the ends of the list and of the log. Without memory both are as before.
-fn add_row(
+pub fn add_row(
     clauses: &mut ClauseList,
     log: &mut LratLog,
     clause: Vec<Lit>,
@@ -225,7 +225,7 @@ fn add_row(
 }
 
 /// The id of the next clause. The list has room for that clause then.
-fn next_id(clauses: &mut ClauseList) -> Result<u64, AllocError>
+pub fn next_id(clauses: &mut ClauseList) -> Result<u64, AllocError>
     ensures same { clauses.new ≡ clauses.old }
     ensures id { IfOk result (λ id. id ≡ length clauses.old.clauses + 1) }
 {

@@ -14,6 +14,8 @@ ghost use Rattle.hk_cdcl.specs.States.{Leveled, Grows, Finds, Ran};
 ghost use Rattle.hk_cdcl.specs.Ends.{IfSat, IfUnsat, IfSpent, IfLogged, Came, Ends};
 ghost use Rattle.hk_cdcl.specs.declared.solver.SolveEnd.TheVariants.{Unsat};
 
+use crate::active::Kept;
+use crate::call::call;
 use crate::propagate::Propagate;
 use crate::search::{Found, Search, Step, copy_of};
 use crate::watched::Watched;
@@ -62,7 +64,7 @@ fn solve_with<P: Propagate>(
 }
 
 /// A call with this budget. The watches take the room that they had in earlier calls.
-fn run(
+pub fn run(
     alloc: Global,
     search: &mut Search,
     watched: &mut Watched,
@@ -118,11 +120,19 @@ fn grow_search(search: &mut Search, list: &ClauseList, given: usize) -> Result<(
 }
 
 /// A solver that lives through rounds: between two calls its list may grow at the end. It keeps what was learned: the
-/// learned clauses with their log, the activities of variables, the values that they had last, and room for watches.
+/// learned clauses with their log and which of them stay in the search, the activities of variables, the values that they
+/// had last, and room for watches.
 #[derive(Drop)]
 pub struct Solver {
+    /// The number of given clauses.
     given: usize,
+    /// The given clauses, all learned ones and their log; and the search that forgets none of them.
     search: Search,
+    /// The search of the present segment, over the given clauses and the learned ones that stay.
+    active: Search,
+    /// The learned clauses that stay.
+    kept: Vec<Kept>,
+    /// Watches for the search that forgets nothing.
     watched: Watched,
 }
 
@@ -144,9 +154,13 @@ impl Solver {
         ensures { IfOk result (λ s. s ≡ record { list = list.now; log = [] }) }
     {
         let search = Search::new(alloc, list)?;
+        let none = ClauseList::new(alloc, 0);
+        let active = Search::new(alloc, &none)?;
         Ok(Solver {
             given: list.len(),
             search,
+            active,
+            kept: Vec::new(alloc),
             watched: Watched::new(alloc),
         })
     }
@@ -172,12 +186,21 @@ impl Solver {
         ensures accepted { AreAccepted (start self.new.list) self.new.log }
         ensures came { IfOk result (Came self.old self.new budget) }
     {
-        run(alloc, &mut self.search, &mut self.watched, budget)
+        call(
+            alloc,
+            self.given,
+            &mut self.search,
+            &mut self.active,
+            &mut self.kept,
+            &mut self.watched,
+            budget,
+        )
     }
 }
 
 impl Solver {
-    /// Solves the held list by clause learning, with a budget of at least 1 for the clauses that this call learns.
+    /// Solves the held list by clause learning, with a budget of at least 1 for the clauses that this call learns. Where
+    /// learning and forgetting spends it, it is spent once more by a search that forgets nothing.
     ///
     /// Answers an assignment that satisfies the list; or a log in LRAT that refutes it; or, where the budget is spent, a log
     /// whose rows are accepted and whose last `budget` additions, those of this call, are each a clause that unit
@@ -257,8 +280,12 @@ impl Solver {
         let Solver {
             given: _,
             search,
+            active,
+            kept,
             watched,
         } = self;
+        drop(active);
+        drop(kept);
         drop(watched);
         search.into_log()
     }

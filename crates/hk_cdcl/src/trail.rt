@@ -2,6 +2,7 @@
 
 ghost use Rattle.std.specs.Prelude.{◌≡◌, ◌==◌, ℕ, ◌-◌, ◌<◌, ◌≤◌, ◌^◌, [], false, length, neg_ℤ, slice_index, IfOk, IsTrue, MatchOption};
 ghost use Rattle.hk_cnf.specs.Literal.{IsWithin, place_of, has};
+ghost use Rattle.hk_cdcl.specs.Records.{lit_of};
 ghost use Rattle.hk_cdcl.specs.Path.{IsPath, with_step, cut_at, lit_at, is_set, AreSet, IsUnset, AreTruths};
 
 use hk_cnf::Lit;
@@ -80,6 +81,22 @@ impl Trail {
         ensures { result ≡ has self.now.lits lit }
     {
         self.values[lit.code() as usize]
+    }
+
+    /// Whether the literal with this code is true.
+    pub fn holds_code(&self, code: u32) -> bool
+        requires { IsWithin self.now.vars (lit_of code) }
+        ensures { result ≡ has self.now.lits (lit_of code) }
+    {
+        self.values[code as usize]
+    }
+
+    /// Whether the literal with this code is false.
+    pub fn is_false(&self, code: u32) -> bool
+        requires { IsWithin self.now.vars (lit_of code) }
+        ensures { result ≡ has self.now.lits (neg_ℤ (lit_of code)) }
+    {
+        self.values[code as usize + 1 - 2 * (code as usize % 2)]
     }
 
     /// The literal at this place.

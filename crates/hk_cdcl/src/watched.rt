@@ -8,28 +8,25 @@
 //! The lengths of the trail at which nothing was left to do are kept: after a cut the literals behind the last of them are
 //! looked at again.
 
-ghost use Rattle.std.specs.Prelude.{◌≡◌, ◌≢◌, ◌⊎◌, ◌↔◌, ◌+◌, ◌*◌, ◌^◌, ◌<◌, ◌≤◌, ◌++◌, ◌∷◌, pos, slice_set, [], false, true, List, ℤ, neg_ℤ, length, take, IfSome, IfNone, IsTrue, IsFalse, MatchOption, OnOk, OnErr};
+ghost use Rattle.std.specs.Prelude.{◌≡◌, ◌≢◌, ◌⊎◌, ◌↔◌, ◌+◌, ◌*◌, ◌^◌, ◌<◌, ◌≤◌, ◌++◌, ◌∷◌, pos, slice_set, [], false, true, nat_le, List, ℤ, neg_ℤ, length, take, IfSome, IfNone, IsTrue, IsFalse, MatchOption, OnOk, OnErr};
 ghost use Rattle.std.specs.List.{All, AllPairs};
 ghost use Rattle.hk_cnf.specs.Literal.{IsWithin, code_of, has};
 ghost use Rattle.hk_cdcl.specs.Fresh.{AreQuiet};
 ghost use Rattle.hk_cdcl.specs.Path.{Extends, lit_at};
 ghost use Rattle.hk_cdcl.specs.Propagation.{IsConflict, HasSeen};
-ghost use Rattle.hk_cdcl.specs.Watches.{watches_of, watch_at};
-ghost use Rattle.hk_cdcl.specs.Watching.{clause_no, AreFalseBetween, IsLeftAt, Moves, IsFront, IsEnded, with_both, HasRoom, EndsMore, Begins, Fits, IfQuiet, Propagated, Settled, IsOtherOf, IsMoved, IsLeft, IsOther, IsBeside, Propagating, Turning, Visited, Fewer, Came};
+ghost use Rattle.hk_cdcl.specs.Looking.{IsOther};
+ghost use Rattle.hk_cdcl.specs.Records.{lit_of};
+ghost use Rattle.hk_cdcl.specs.Watches.{plain_of, watches_of, watch_at, IsMoved, with_both};
+ghost use Rattle.hk_cdcl.specs.Watching.{clause_no, Moves, IsFront, IsEnded, HasRoom, EndsMore, Begins, Fits, IfQuiet, IsAttached, Propagated, Settled, IsLeft, IsBeside, Propagating, Turning, Visited, Fewer, Came};
 
+use crate::lists::Slot;
 use crate::propagate::Propagate;
+use crate::records::literal;
 use crate::scan::scan;
 use crate::trail::Trail;
-use crate::watches::{Watch, Watches};
+use crate::watches::{Watches, is_binary};
 use hk_cnf::{ClauseList, Lit};
 use std::alloc::{AllocError, Global};
-
-/// The watched literals of a clause.
-#[derive(Clone, Copy)]
-pub struct Pair {
-    first: Lit,
-    second: Lit,
-}
 
 /// Unit propagation by watched literals.
 ///
@@ -38,7 +35,6 @@ pub struct Pair {
 #[derive(Drop)]
 pub struct Watched {
     watches: Watches,
-    pairs: Vec<Pair>,
     ends: Vec<usize>,
     roomed: usize,
 }
@@ -113,138 +109,18 @@ fn imply(clauses: &ClauseList, trail: &mut Trail, place: usize, lit: Lit) -> boo
     true
 }
 
-/// The other one of two watched literals, where they differ.
-fn other_of(pair: Pair, lit: Lit) -> Option<Lit>
-    ensures { IfSome result (IsOtherOf pair lit) }
-{
-    if pair.first == lit && pair.second != lit {
-        return Some(pair.second);
-    }
-    if pair.second == lit && pair.first != lit {
-        return Some(pair.first);
-    }
-    None
-}
-
-/// The literal at a place of the clause.
-fn lit_of(clause: &[Lit], place: usize) -> Lit
-    requires { place < length clause.now }
-    ensures { result ≡ lit_at clause.now place }
-{
-    clause[place]
-}
-
-/// Whether another literal than `lit` is not false.
-fn is_left(trail: &Trail, lit: Lit, other: Lit) -> bool
-    requires { IsWithin trail.now.vars other }
-    ensures left { IsTrue result → has trail.now.lits (neg_ℤ other) ≡ false }
-    ensures apart { IsTrue result → lit ≢ other }
-    ensures none { IsFalse result → (lit ≡ other) ⊎ (has trail.now.lits (neg_ℤ other) ≡ true) }
-{
-    if other == lit {
-        return false;
-    }
-    !trail.holds(other.negated())
-}
-
-/// The first place between two in the clause whose literal is neither `lit` nor false.
-fn left_between(trail: &Trail, clause: &[Lit], lit: Lit, from: usize, to: usize) -> Option<usize>
-    requires within { All (IsWithin trail.now.vars) clause.now }
-    requires inside { to ≤ length clause.now }
-    ensures { MatchOption result (AreFalseBetween trail.now.lits clause.now lit from to) (IsLeftAt trail.now.lits clause.now lit) }
-{
-    for place in from..to {
-        if is_left(trail, lit, lit_of(clause, place)) {
-            return Some(place);
-        }
-    }
-    None
-}
-
-/// The same before a place from which on there is none.
-fn left_before(trail: &Trail, clause: &[Lit], lit: Lit, start: usize) -> Option<usize>
-    requires within { All (IsWithin trail.now.vars) clause.now }
-    requires inside { start ≤ length clause.now }
-    requires none { AreFalseBetween trail.now.lits clause.now lit start (length clause.now) }
-    ensures { MatchOption result (All (λ x. (lit ≡ x) ⊎ (has trail.now.lits (neg_ℤ x) ≡ true)) clause.now) (IsLeftAt trail.now.lits clause.now lit) }
-{
-    left_between(trail, clause, lit, 0, start)
-}
-
-/// Where to begin in a clause: at this place, where it has one.
-fn start_of(clause: &[Lit], from: usize) -> usize
-    ensures { result ≤ length clause.now }
-{
-    if from < clause.len() { from } else { 0 }
-}
-
-/// A place in the clause whose literal is neither `lit` nor false: the first one from `from` on, or else from the front on.
-fn left_from(trail: &Trail, clause: &[Lit], lit: Lit, from: usize) -> Option<usize>
-    requires { All (IsWithin trail.now.vars) clause.now }
-    ensures { MatchOption result (All (λ x. (lit ≡ x) ⊎ (has trail.now.lits (neg_ℤ x) ≡ true)) clause.now) (IsLeftAt trail.now.lits clause.now lit) }
-{
-    let start = start_of(clause, from);
-    match left_between(trail, clause, lit, start, clause.len()) {
-        Some(place) => Some(place),
-        None => left_before(trail, clause, lit, start),
-    }
-}
-
-/// A watch of a clause of at least three literals.
-fn long_watch(clause: u32, blocker: Lit, resume: u16) -> Watch
-    ensures { result ≡ record { blocker = blocker; clause = clause; resume = resume; binary = false } }
-{
-    Watch {
-        blocker,
-        clause,
-        resume,
-        binary: false,
-    }
-}
-
-/// The place where a search goes on, or the front where it is too far behind.
-fn resume_at(place: usize) -> u16 {
-    if place > 65_535 { 0 } else { place as u16 }
-}
-
 impl Watched {
-    /// Makes a literal of its clause block the literal's watch at a place.
-    fn block(&mut self, lit: Lit, place: usize, clause: u32, blocker: Lit, resume: u16)
-        requires lit { code_of lit < length self.old.watches }
-        requires place { place < length (watches_of self.old.watches lit) }
+    /// Writes the watch at a place of the list of the literal with this code.
+    fn block(&mut self, code: u32, place: usize, slot: Slot)
+        requires code { code < length self.old.watches.lists }
+        requires place { place < length (watches_of self.old.watches.lists (lit_of code)) }
         ensures ends { self.new.ends ≡ self.old.ends }
-        ensures pairs { self.new.pairs ≡ self.old.pairs }
-        ensures watches { self.new.watches ≡ slice_set self.old.watches (code_of lit) (slice_set (watches_of self.old.watches lit) place (record { blocker = blocker; clause = clause; resume = resume; binary = false })) }
+        ensures pairs { self.new.watches.pairs ≡ self.old.watches.pairs }
+        ensures texts { self.new.watches.texts ≡ self.old.watches.texts }
+        ensures starts { self.new.watches.starts ≡ self.old.watches.starts }
+        ensures lists { self.new.watches.lists ≡ slice_set self.old.watches.lists (code_of (lit_of code)) (slice_set (watches_of self.old.watches.lists (lit_of code)) place (plain_of self.old.watches.starts slot)) }
     {
-        self.watches
-            .set(lit, place, long_watch(clause, blocker, resume));
-    }
-
-    /// Watches the clause of the literal's watch at a place by `next` in place of the literal.
-    fn rewatch(&mut self, lit: Lit, place: usize, watch: Watch, next: Lit) -> bool
-        requires lit { code_of lit < length self.old.watches }
-        requires next { code_of next < length self.old.watches }
-        requires lit_nonzero { lit ≢ pos 0 }
-        requires next_nonzero { next ≢ pos 0 }
-        requires apart { next ≢ lit }
-        requires place { place < length (watches_of self.old.watches lit) }
-        requires clause { watch.clause < length self.old.pairs.items }
-        ensures ends { self.new.ends ≡ self.old.ends }
-        ensures pairs { IsTrue result → self.new.pairs.items ≡ slice_set self.old.pairs.items watch.clause (record { first = next; second = watch.blocker }) }
-        ensures watches { IsTrue result → IsMoved self.old.watches self.new.watches lit place next watch }
-        ensures count { IsTrue result → length self.new.watches ≡ length self.old.watches }
-    {
-        let clause = watch.clause as usize;
-        let pair = Pair {
-            first: next,
-            second: watch.blocker,
-        };
-        if !self.watches.push(next, watch) {
-            return false;
-        }
-        self.watches.remove(lit, place);
-        self.pairs[clause] = pair;
-        true
+        self.watches.set(code, place, slot);
     }
 }
 
@@ -272,24 +148,31 @@ impl Watched {
         clauses: &ClauseList,
         trail: &Trail,
         head: usize,
-        lit: Lit,
+        code: u32,
         place: usize,
-        watch: Watch,
-        next: Lit,
+        slot: Slot,
+        next: u32,
     ) -> Visit
         requires vars { trail.now.vars ≡ clauses.now.vars }
-        requires turning { Turning clauses.now.clauses self.old trail.now head lit place }
-        requires moves { Moves clauses.now.clauses self.old.watches self.old.pairs.items trail.now.lits lit place watch.clause next watch.blocker watch }
-        ensures visited { Visited clauses.now.clauses self.new trail.now head lit place result }
-        ensures fewer { Fewer self.old.watches self.new.watches lit result }
+        requires turning { Turning clauses.now.clauses self.old trail.now head (lit_of code) place }
+        requires inside { code < length self.old.watches.lists }
+        requires long { nat_le (2 ^ 31) slot.target ≡ false }
+        requires moves { Moves clauses.now.clauses self.old.watches.lists self.old.watches.pairs trail.now.lits (lit_of code) place (plain_of self.old.watches.starts slot).clause (lit_of next) (plain_of self.old.watches.starts slot).blocker (plain_of self.old.watches.starts slot) }
+        ensures visited { Visited clauses.now.clauses self.new trail.now head (lit_of code) place result }
+        ensures fewer { Fewer self.old.watches.lists self.new.watches.lists (lit_of code) result }
     {
         let _within = clauses.len();
         let _path = trail.len();
-        if trail.holds(next) {
-            self.block(lit, place, watch.clause, next, watch.resume);
+        let _count = self.watches.clauses();
+        if trail.holds_code(next) {
+            let blocked = Slot {
+                blocker: next,
+                target: slot.target,
+            };
+            self.block(code, place, blocked);
             return Visit::Stays;
         }
-        if self.rewatch(lit, place, watch, next) {
+        if self.watches.rewatch(code, place, slot, next) {
             Visit::Goes
         } else {
             Visit::Wants
@@ -302,67 +185,100 @@ impl Watched {
         clauses: &ClauseList,
         trail: &mut Trail,
         head: usize,
-        lit: Lit,
+        code: u32,
         place: usize,
-        watch: Watch,
+        slot: Slot,
     ) -> Visit
         requires vars { trail.old.vars ≡ clauses.now.vars }
-        requires turning { Turning clauses.now.clauses self.old trail.old head lit place }
-        requires place { place < length (watches_of self.old.watches lit) }
-        requires clause { (watch_at (watches_of self.old.watches lit) place).clause ≡ watch.clause }
+        requires turning { Turning clauses.now.clauses self.old trail.old head (lit_of code) place }
+        requires inside { code < length self.old.watches.lists }
+        requires place { place < length (watches_of self.old.watches.lists (lit_of code)) }
+        requires slot { plain_of self.old.watches.starts slot ≡ watch_at (watches_of self.old.watches.lists (lit_of code)) place }
+        requires long { nat_le (2 ^ 31) slot.target ≡ false }
         ensures extends { Extends clauses.now.clauses trail.old trail.new }
-        ensures visited { Visited clauses.now.clauses self.new trail.new head lit place result }
-        ensures fewer { Fewer self.old.watches self.new.watches lit result }
+        ensures visited { Visited clauses.now.clauses self.new trail.new head (lit_of code) place result }
+        ensures fewer { Fewer self.old.watches.lists self.new.watches.lists (lit_of code) result }
     {
         let _within = clauses.len();
         let _path = trail.len();
-        let clause = watch.clause as usize;
-        let Some(other) = other_of(self.pairs[clause], lit) else {
+        let _count = self.watches.clauses();
+        let Some(other) = self.watches.other(slot, code) else {
             return Visit::Wants;
         };
-        self.block(lit, place, watch.clause, other, watch.resume);
-        if trail.holds(other) {
+        let moved = Slot {
+            blocker: other,
+            target: slot.target,
+        };
+        self.block(code, place, moved);
+        if trail.holds_code(other) {
             return Visit::Stays;
         }
-        let lits = clauses.clause(clause);
-        let Some(at) = left_from(trail, lits, other, watch.resume as usize) else {
-            return settle(clauses, trail, clause, other);
+        let Some(next) = self.watches.left(trail, slot, other) else {
+            let clause = self.watches.clause(slot);
+            return settle(clauses, trail, clause, literal(other));
         };
-        let next = lit_of(lits, at);
-        let moved = long_watch(watch.clause, other, resume_at(at));
-        self.go_on(clauses, trail, head, lit, place, moved, next)
+        self.go_on(clauses, trail, head, code, place, moved, next)
     }
 
-    /// Looks at the literal's watch at a place, where the literal became false by that at `head`.
+    /// Looks at the watch at a place of the list of the literal with this code, which became false by that at `head`.
     fn visit(
         &mut self,
         clauses: &ClauseList,
         trail: &mut Trail,
         head: usize,
-        lit: Lit,
+        code: u32,
         place: usize,
     ) -> Visit
         requires vars { trail.old.vars ≡ clauses.now.vars }
-        requires turning { Turning clauses.now.clauses self.old trail.old head lit place }
-        requires place { place < length (watches_of self.old.watches lit) }
+        requires turning { Turning clauses.now.clauses self.old trail.old head (lit_of code) place }
+        requires inside { code < length self.old.watches.lists }
+        requires place { place < length (watches_of self.old.watches.lists (lit_of code)) }
         ensures extends { Extends clauses.now.clauses trail.old trail.new }
-        ensures visited { Visited clauses.now.clauses self.new trail.new head lit place result }
-        ensures fewer { Fewer self.old.watches self.new.watches lit result }
+        ensures visited { Visited clauses.now.clauses self.new trail.new head (lit_of code) place result }
+        ensures fewer { Fewer self.old.watches.lists self.new.watches.lists (lit_of code) result }
     {
         let _within = clauses.len();
         let _path = trail.len();
-        let watch = self.watches.watch(lit, place);
-        if trail.holds(watch.blocker) {
+        let _count = self.watches.clauses();
+        let slot = self.watches.watch(code, place);
+        if trail.holds_code(slot.blocker) {
             return Visit::Stays;
         }
-        if watch.binary {
-            return settle(clauses, trail, watch.clause as usize, watch.blocker);
+        if is_binary(slot) {
+            let clause = self.watches.clause(slot);
+            return settle(clauses, trail, clause, literal(slot.blocker));
         }
-        self.visit_clause(clauses, trail, head, lit, place, watch)
+        self.visit_clause(clauses, trail, head, code, place, slot)
     }
 }
 
 impl Watched {
+    /// Looks at the watches of the literal with this code, which the literal at `head` makes false.
+    fn visit_all(
+        &mut self,
+        clauses: &ClauseList,
+        trail: &mut Trail,
+        head: usize,
+        code: u32,
+    ) -> Outcome
+        requires vars { trail.old.vars ≡ clauses.now.vars }
+        requires turning { Turning clauses.now.clauses self.old trail.old head (lit_of code) 0 }
+        ensures extends { Extends clauses.now.clauses trail.old trail.new }
+        ensures came { Came clauses.now.clauses self.new trail.new (head + 1) result }
+    {
+        let _path = trail.len();
+        let mut place = 0;
+        while place < self.watches.count(code) {
+            match self.visit(clauses, trail, head, code, place) {
+                Visit::Stays => place += 1,
+                Visit::Goes => {}
+                Visit::Stops(clause) => return Outcome::Conflict(clause),
+                Visit::Wants => return Outcome::Full,
+            }
+        }
+        Outcome::Quiet
+    }
+
     /// Looks at the watches of the literal that the one at `head` makes false.
     fn falsify(&mut self, clauses: &ClauseList, trail: &mut Trail, head: usize) -> Outcome
         requires vars { trail.old.vars ≡ clauses.now.vars }
@@ -372,17 +288,11 @@ impl Watched {
         ensures came { Came clauses.now.clauses self.new trail.new (head + 1) result }
     {
         let _path = trail.len();
-        let lit = trail.lit(head).negated();
-        let mut place = 0;
-        while place < self.watches.count(lit) {
-            match self.visit(clauses, trail, head, lit, place) {
-                Visit::Stays => place += 1,
-                Visit::Goes => {}
-                Visit::Stops(clause) => return Outcome::Conflict(clause),
-                Visit::Wants => return Outcome::Full,
-            }
+        let code = trail.lit(head).negated().code();
+        if code > u64::from(u32::MAX) {
+            return Outcome::Full;
         }
-        Outcome::Quiet
+        self.visit_all(clauses, trail, head, code as u32)
     }
 
     /// Looks at the literals of the trail from `start` on, and at those that come.
@@ -470,7 +380,6 @@ impl Watched {
         ensures member { has clause.now result ≡ true }
         ensures ended { AllPairs (λ d e. d < e) self.old.ends.items → All (λ e. e ≤ length trail.now.lits) self.old.ends.items → IsEnded self.new.ends.items trail.now.lits clause.now (record { first = first; second = result }) }
         ensures ends { IsFront self.old.ends.items self.new.ends.items }
-        ensures pairs { self.new.pairs ≡ self.old.pairs }
         ensures watches { self.new.watches ≡ self.old.watches }
     {
         let _path = trail.len();
@@ -488,41 +397,24 @@ impl Watched {
     }
 
     /// Watches the next clause by these literals, where there is room, and answers whether there was.
-    fn watch_both(&mut self, clause: usize, first: Lit, second: Lit, binary: bool) -> bool
-        requires first { code_of first < length self.old.watches }
-        requires second { code_of second < length self.old.watches }
-        ensures watches { IsTrue result → self.new.watches ≡ with_both self.old.watches first second clause binary }
-        ensures pairs { IsTrue result → self.new.pairs.items ≡ self.old.pairs.items ++ (record { first = first; second = second }) ∷ [] }
+    fn watch_both(&mut self, vars: u64, clause: &[Lit], first: Lit, second: Lit) -> bool
+        requires within { All (IsWithin vars) clause.now }
+        requires first { IsWithin vars first }
+        requires second { IsWithin vars second }
+        requires first_inside { code_of first < length self.old.watches.lists }
+        requires second_inside { code_of second < length self.old.watches.lists }
+        requires named { (l : ℤ) → l ≢ pos 0 → All (λ w. w.clause < length self.old.watches.pairs) (watches_of self.old.watches.lists l) }
+        ensures watches { IsTrue result → IsAttached clause.now self.old.watches self.new.watches first second }
         ensures ends { self.new.ends ≡ self.old.ends }
     {
-        if clause > u32::MAX as usize {
-            return false;
-        }
-        let one = Watch {
-            blocker: second,
-            clause: clause as u32,
-            resume: 0,
-            binary,
-        };
-        let two = Watch {
-            blocker: first,
-            clause: clause as u32,
-            resume: 0,
-            binary,
-        };
-        if self.pairs.len() >= self.pairs.capacity() || !self.watches.push(first, one) {
-            return false;
-        }
-        if !self.watches.push(second, two) {
-            return false;
-        }
-        self.pairs.push_reserved(Pair { first, second });
-        true
+        let _count = self.watches.clauses();
+        let binary = has_only(clause, first, second);
+        self.watches.push(vars, clause, first, second, binary)
     }
 
     /// Where to begin: at the last end, or from nothing where there is none.
     fn begin(&mut self) -> usize
-        ensures count { length self.new.watches ≡ length self.old.watches }
+        ensures count { length self.new.watches.lists ≡ length self.old.watches.lists }
         ensures begins { (clauses : List (List ℤ)) (lits : List ℤ) → Fits self.old clauses lits → Begins clauses self.new lits result }
     {
         let len = self.ends.len();
@@ -530,14 +422,12 @@ impl Watched {
             return self.ends[len - 1];
         }
         self.watches.clear();
-        self.pairs.truncate(0);
         0
     }
 
     /// Keeps this length of the trail, at which nothing is left to do.
     fn end(&mut self, length: usize)
         ensures ends { EndsMore self.old.ends.items self.new.ends.items length }
-        ensures pairs { self.new.pairs ≡ self.old.pairs }
         ensures watches { self.new.watches ≡ self.old.watches }
     {
         let len = self.ends.len();
@@ -560,17 +450,16 @@ impl Watched {
     ) -> Outcome
         requires vars { trail.now.vars ≡ clauses.now.vars }
         requires propagating { Propagating clauses.now.clauses self.old trail.now head }
-        requires more { length self.old.pairs.items < length clauses.now.clauses }
-        requires first { IsLeft trail.now.lits (clause_no clauses.now.clauses (length self.old.pairs.items)) first }
-        requires second { IsOther trail.now.lits (clause_no clauses.now.clauses (length self.old.pairs.items)) first second }
+        requires more { length self.old.watches.pairs < length clauses.now.clauses }
+        requires first { IsLeft trail.now.lits (clause_no clauses.now.clauses (length self.old.watches.pairs)) first }
+        requires second { IsOther trail.now.lits (clause_no clauses.now.clauses (length self.old.watches.pairs)) first second }
         ensures came { Came clauses.now.clauses self.new trail.now head result }
-        ensures next { IfQuiet result (length self.new.pairs.items ≡ length self.old.pairs.items + 1) }
+        ensures next { IfQuiet result (length self.new.watches.pairs ≡ length self.old.watches.pairs + 1) }
     {
         let _within = clauses.len();
-        let place = self.pairs.len();
+        let place = self.watches.clauses();
         let clause = clauses.clause(place);
-        let binary = has_only(clause, first, second);
-        if self.watch_both(place, first, second, binary) {
+        if self.watch_both(clauses.vars(), clause, first, second) {
             Outcome::Quiet
         } else {
             Outcome::Full
@@ -587,22 +476,21 @@ impl Watched {
     ) -> Outcome
         requires vars { trail.old.vars ≡ clauses.now.vars }
         requires propagating { Propagating clauses.now.clauses self.old trail.old head }
-        requires more { length self.old.pairs.items < length clauses.now.clauses }
-        requires first { IsLeft trail.old.lits (clause_no clauses.now.clauses (length self.old.pairs.items)) first }
-        requires others { All (λ x. (first ≡ x) ⊎ (has trail.old.lits (neg_ℤ x) ≡ true)) (clause_no clauses.now.clauses (length self.old.pairs.items)) }
+        requires more { length self.old.watches.pairs < length clauses.now.clauses }
+        requires first { IsLeft trail.old.lits (clause_no clauses.now.clauses (length self.old.watches.pairs)) first }
+        requires others { All (λ x. (first ≡ x) ⊎ (has trail.old.lits (neg_ℤ x) ≡ true)) (clause_no clauses.now.clauses (length self.old.watches.pairs)) }
         ensures extends { Extends clauses.now.clauses trail.old trail.new }
         ensures came { Came clauses.now.clauses self.new trail.new head result }
-        ensures next { IfQuiet result (length self.new.pairs.items ≡ length self.old.pairs.items + 1) }
+        ensures next { IfQuiet result (length self.new.watches.pairs ≡ length self.old.watches.pairs + 1) }
     {
         let _within = clauses.len();
-        let place = self.pairs.len();
+        let place = self.watches.clauses();
         if !imply(clauses, trail, place, first) {
             return Outcome::Conflict(place);
         }
         let clause = clauses.clause(place);
         let second = self.second_of(trail, clause, first);
-        let binary = has_only(clause, first, second);
-        if self.watch_both(place, first, second, binary) {
+        if self.watch_both(clauses.vars(), clause, first, second) {
             Outcome::Quiet
         } else {
             Outcome::Full
@@ -613,14 +501,14 @@ impl Watched {
     fn attach(&mut self, clauses: &ClauseList, trail: &mut Trail, head: usize) -> Outcome
         requires vars { trail.old.vars ≡ clauses.now.vars }
         requires propagating { Propagating clauses.now.clauses self.old trail.old head }
-        requires more { length self.old.pairs.items < length clauses.now.clauses }
+        requires more { length self.old.watches.pairs < length clauses.now.clauses }
         ensures extends { Extends clauses.now.clauses trail.old trail.new }
         ensures came { Came clauses.now.clauses self.new trail.new head result }
-        ensures next { IfQuiet result (length self.new.pairs.items ≡ length self.old.pairs.items + 1) }
+        ensures next { IfQuiet result (length self.new.watches.pairs ≡ length self.old.watches.pairs + 1) }
     {
         let _within = clauses.len();
         let _path = trail.len();
-        let place = self.pairs.len();
+        let place = self.watches.clauses();
         let clause = clauses.clause(place);
         let Some(first) = left_literal(trail, clause) else {
             return Outcome::Conflict(place);
@@ -640,7 +528,7 @@ impl Watched {
         ensures extends { Extends clauses.now.clauses trail.old trail.new }
         ensures came { Came clauses.now.clauses self.new trail.new head result }
     {
-        while self.pairs.len() < clauses.len() {
+        while self.watches.clauses() < clauses.len() {
             match self.attach(clauses, trail, head) {
                 Outcome::Quiet => {}
                 Outcome::Conflict(clause) => return Outcome::Conflict(clause),
@@ -680,7 +568,7 @@ impl Watched {
             Outcome::Conflict(clause) => return Outcome::Conflict(clause),
             Outcome::Full => return Outcome::Full,
         }
-        if self.pairs.len() < clauses.len() {
+        if self.watches.clauses() < clauses.len() {
             return Outcome::Full;
         }
         self.end(trail.len());
@@ -695,7 +583,6 @@ impl Watched {
     {
         Watched {
             watches: Watches::new(alloc),
-            pairs: Vec::new(alloc),
             ends: Vec::new(alloc),
             roomed: 0,
         }
@@ -742,8 +629,6 @@ impl Propagate for Watched {
     fn added(&mut self, clauses: &ClauseList) -> Result<(), AllocError> {
         let vars = clauses.vars() as usize;
         self.watches.widen(2 * vars)?;
-        self.pairs
-            .reserve(clauses.len().saturating_sub(self.pairs.len()))?;
         self.ends
             .reserve((vars + 1).saturating_sub(self.ends.len()))?;
         self.make_room(clauses)

@@ -9,6 +9,6 @@ grow_search-requires-clause-count c = held-count c.self.inside c.self.invariant
 
 pub invariant_of-self-2 : goal.invariant_of-self-2
 invariant_of-self-2 c =
-    grown-solver c.self.inside c.args.list.now c.grow_search.new.search c.expect.new.self c.len-self-inside.result c.self.invariant c.len-self-inside.ensures.value
+    grown-solver c.self.inside (record c.self.inside { given = c.len-self-inside.result; search = c.grow_search.new.search; watched = c.expect.new.self }) c.args.list.now c.self.invariant c.len-self-inside.ensures.value
     (subst (λ (h : Held). IsLonger h.list c.args.list.now (length c.args.list.now.clauses - length h.list.clauses)) (sym c.self.view_is) c.requires)
     c.in_ok-grow_search.ensures.clauses c.in_ok-grow_search.ensures.log

@@ -1,7 +1,5 @@
-use Rattle.std.proofs.Common.{◌≡◌, ◌<◌, true, neg_ℤ, length, sym, ◌∙◌, subst, arith}
-use Rattle.std.specs.Vec.{vec_len}
+use Rattle.std.proofs.Common.{◌≡◌, ◌<◌, true, neg_ℤ, length, sym, ◌∙◌, ap, subst}
 use Rattle.std.specs.List.{All}
-use Rattle.std.proofs.lemmas.Grind.{common_steps}
 use Rattle.hk_cnf.specs.Literal.{has}
 use Rattle.hk_cdcl.proofs.Extending.{extends-refl}
 use Rattle.hk_cdcl.proofs.Attaching.{next-false}
@@ -15,9 +13,8 @@ returns-in-Some-other_left-clause-extends c = extends-refl c.args.clauses.now.cl
 
 pub returns-in_default-clause-came : goal.returns-in_default-clause-came
 returns-in_default-clause-came c =
-    let n : vec_len c.args.self.now.pairs ≡ length c.args.self.now.pairs.items = grind (arith, common_steps) in
-    let k : c.len-place.result ≡ length c.args.self.now.pairs.items = c.len-place.ensures ∙ n in (
+    let k : c.clauses-place.result ≡ length c.args.self.now.watches.pairs = c.clauses-place.ensures.pairs in (
       c.requires.propagating.watching,
-      next-false c.args.clauses.now.clauses c.args.trail.now.lits c.len-place.result (subst (λ i. i < length c.args.clauses.now.clauses) (sym k) c.requires.more)
+      next-false c.args.clauses.now.clauses c.args.trail.now.lits c.clauses-place.result (subst (λ i. i < length c.args.clauses.now.clauses) (sym k) c.requires.more)
           (subst (All (λ x. has c.args.trail.now.lits (neg_ℤ x) ≡ true)) c.clause-clause.ensures.same c.in_default.ensures),
     )

@@ -7,4 +7,4 @@ abbrev pub invariant-loop-self : goal.invariant-loop-self
 invariant-loop-self l = Extends l.clauses.clauses l.initial.trail l.trail × Propagating l.clauses.clauses l.self l.trail l.head
 
 abbrev pub decreases-loop-self : goal.decreases-loop-self
-decreases-loop-self l = length l.clauses.clauses - length l.self.pairs.items
+decreases-loop-self l = length l.clauses.clauses - length l.self.watches.pairs

@@ -1,35 +1,58 @@
-use Rattle.std.proofs.Common.{◌≡◌, ◌⊎◌, ◌<◌, true, List, ℤ, length, sym, ◌∙◌, ap, subst, arith}
-use Rattle.std.specs.Vec.{vec_len}
+use Rattle.std.proofs.Common.{◌≡◌, ◌≢◌, ◌⊎◌, ◌+◌, ◌*◌, ◌<◌, ◌≤◌, ◌^◌, ℕ, Bool, true, false, List, [], length, take, ℤ, pos, neg_ℤ, refl, sym, ◌∙◌, ap, subst, arith}
 use Rattle.std.specs.List.{All}
-use Rattle.std.proofs.lemmas.Grind.{common_steps}
-use Rattle.hk_cnf.specs.Literal.{code_of, has}
-use Rattle.hk_cdcl.specs.declared.watches.Watch.{Watch}
-use Rattle.hk_cdcl.specs.Watching.{clause_no, IsLeft, IsEnded}
-use Rattle.hk_cdcl.proofs.Moving.{other-within, code-inside}
+use Rattle.hk_cnf.specs.Literal.{IsWithin, code_of, has}
+use Rattle.hk_cdcl.specs.declared.watched.Watched.{Watched}
+use Rattle.hk_cdcl.specs.Looking.{IsOther, IsOtherOf}
+use Rattle.hk_cdcl.specs.Records.{lit_of, text_at}
+use Rattle.hk_cdcl.specs.Watches.{Plain, clause_in, plain_of, watches_of}
+use Rattle.hk_cdcl.specs.Watching.{clause_no}
+use Rattle.hk_cdcl.proofs.Extending.{extends-refl, extends-trans}
+use Rattle.std.proofs.lemmas.List.{length_push}
+use Rattle.hk_cdcl.specs.Watches.{Watch}
+use Rattle.hk_cdcl.specs.Watching.{IsAttached, IsEnded}
+use Rattle.hk_cdcl.proofs.Moving.{member-nonzero, other-within, code-inside}
 use Rattle.hk_cdcl.proofs.Attaching.{propagating-lone}
+use Rattle.hk_cdcl.proofs.Looks.{named-of}
 use Rattle.hk_cdcl.proofs.watched.Watched.attach_lone.Goals as goal
 
 pub imply-requires-clause-within : goal.imply-requires-clause-within
-imply-requires-clause-within c = other-within c.args.clauses.now.clauses c.args.clauses.now.vars (length c.args.self.now.pairs.items) c.args.trail.now c.args.first c.requires.vars c.len-within.ensures.within c.requires.more c.requires.first.member
+imply-requires-clause-within c =
+    other-within c.args.clauses.now.clauses c.args.clauses.now.vars (length c.args.self.now.watches.pairs) c.args.trail.now c.args.first c.requires.vars c.len-within.ensures.within c.requires.more c.requires.first.member
+
+pub watch_both-requires-clause-within : goal.watch_both-requires-clause-within
+watch_both-requires-clause-within c =
+    subst (λ v. All (IsWithin v) c.clause-clause.result.now) (sym c.vars.ensures.value) c.clause-clause.ensures.within
 
 pub watch_both-requires-clause-first : goal.watch_both-requires-clause-first
-watch_both-requires-clause-first c = subst (λ (ws : List (List Watch)). code_of c.args.first < length ws) (sym c.second_of-second.ensures.watches) (code-inside c.args.trail.now.vars c.args.self.now.watches c.args.first (other-within c.args.clauses.now.clauses c.args.clauses.now.vars (length c.args.self.now.pairs.items) c.args.trail.now c.args.first c.requires.vars c.len-within.ensures.within c.requires.more c.requires.first.member) c.requires.propagating.sized)
+watch_both-requires-clause-first c =
+    subst (λ v. IsWithin v c.args.first) (sym c.vars.ensures.value) (member-nonzero c.args.clauses.now.vars c.args.clauses.now.clauses (length c.args.self.now.watches.pairs) c.args.first c.len-within.ensures.within c.requires.more c.requires.first.member)
 
 pub watch_both-requires-clause-second : goal.watch_both-requires-clause-second
 watch_both-requires-clause-second c =
-    let n : vec_len c.args.self.now.pairs ≡ length c.args.self.now.pairs.items = grind (arith, common_steps) in
-    let k : c.len-place.result ≡ length c.args.self.now.pairs.items = c.len-place.ensures ∙ n in
-    let m : has (clause_no c.args.clauses.now.clauses c.len-place.result) c.second_of-second.result ≡ true = ap (λ (d : List ℤ). has d c.second_of-second.result) (sym c.clause-clause.ensures.same) ∙ c.second_of-second.ensures.member in
-    subst (λ (ws : List (List Watch)). code_of c.second_of-second.result < length ws) (sym c.second_of-second.ensures.watches) (code-inside c.args.trail.now.vars c.args.self.now.watches c.second_of-second.result (other-within c.args.clauses.now.clauses c.args.clauses.now.vars c.len-place.result c.args.trail.now c.second_of-second.result c.requires.vars c.len-within.ensures.within (subst (λ i. i < length c.args.clauses.now.clauses) (sym k) c.requires.more) m) c.requires.propagating.sized)
+    let m : has (clause_no c.args.clauses.now.clauses (length c.args.self.now.watches.pairs)) c.second_of-second.result ≡ true = ap (λ (d : List ℤ). has d c.second_of-second.result) (sym (c.clause-clause.ensures.same ∙ ap (clause_no c.args.clauses.now.clauses) c.clauses-place.ensures.pairs)) ∙ c.second_of-second.ensures.member in
+    subst (λ v. IsWithin v c.second_of-second.result) (sym c.vars.ensures.value) (member-nonzero c.args.clauses.now.vars c.args.clauses.now.clauses (length c.args.self.now.watches.pairs) c.second_of-second.result c.len-within.ensures.within c.requires.more m)
+
+pub watch_both-requires-clause-first_inside : goal.watch_both-requires-clause-first_inside
+watch_both-requires-clause-first_inside c =
+    subst (λ (ws : Plain). code_of c.args.first < length ws.lists) (sym c.second_of-second.ensures.watches) (code-inside c.args.trail.now.vars c.args.self.now.watches.lists c.args.first (other-within c.args.clauses.now.clauses c.args.clauses.now.vars (length c.args.self.now.watches.pairs) c.args.trail.now c.args.first c.requires.vars c.len-within.ensures.within c.requires.more c.requires.first.member) c.requires.propagating.sized)
+
+pub watch_both-requires-clause-second_inside : goal.watch_both-requires-clause-second_inside
+watch_both-requires-clause-second_inside c =
+    let m : has (clause_no c.args.clauses.now.clauses (length c.args.self.now.watches.pairs)) c.second_of-second.result ≡ true = ap (λ (d : List ℤ). has d c.second_of-second.result) (sym (c.clause-clause.ensures.same ∙ ap (clause_no c.args.clauses.now.clauses) c.clauses-place.ensures.pairs)) ∙ c.second_of-second.ensures.member in
+    subst (λ (ws : Plain). code_of c.second_of-second.result < length ws.lists) (sym c.second_of-second.ensures.watches) (code-inside c.args.trail.now.vars c.args.self.now.watches.lists c.second_of-second.result (other-within c.args.clauses.now.clauses c.args.clauses.now.vars (length c.args.self.now.watches.pairs) c.args.trail.now c.second_of-second.result c.requires.vars c.len-within.ensures.within c.requires.more m) c.requires.propagating.sized)
+
+pub watch_both-requires-clause-named : goal.watch_both-requires-clause-named
+watch_both-requires-clause-named c =
+    subst (λ (ws : Plain). (l : ℤ) → l ≢ pos 0 → All (λ (x : Watch). x.clause < length ws.pairs) (watches_of ws.lists l)) (sym c.second_of-second.ensures.watches) (named-of c.args.clauses.now.clauses c.args.self.now c.args.trail.now c.args.head c.requires.propagating)
 
 pub returns-then-watch_both-clause-came : goal.returns-then-watch_both-clause-came
 returns-then-watch_both-clause-came c =
-    let n : vec_len c.args.self.now.pairs ≡ length c.args.self.now.pairs.items = grind (arith, common_steps) in
-    let k : c.len-place.result ≡ length c.args.self.now.pairs.items = c.len-place.ensures ∙ n in
-    let f : IsLeft c.args.trail.now.lits (clause_no c.args.clauses.now.clauses c.len-place.result) c.args.first = subst (λ i. IsLeft c.args.trail.now.lits (clause_no c.args.clauses.now.clauses i) c.args.first) (sym k) c.requires.first in
-    let m : has (clause_no c.args.clauses.now.clauses c.len-place.result) c.second_of-second.result ≡ true = ap (λ (d : List ℤ). has d c.second_of-second.result) (sym c.clause-clause.ensures.same) ∙ c.second_of-second.ensures.member in
-    let only : c.has_only-binary.result ≡ true → All (λ x. (c.second_of-second.result ≡ x) ⊎ (c.args.first ≡ x)) (clause_no c.args.clauses.now.clauses c.len-place.result) = λ e. subst (All (λ x. (c.second_of-second.result ≡ x) ⊎ (c.args.first ≡ x))) c.clause-clause.ensures.same (c.has_only-binary.ensures e) in
-    propagating-lone c.args.clauses.now.clauses c.args.clauses.now.vars c.args.self.now c.second_of-second.new.self c.watch_both.new.self c.args.trail.now c.imply.new.trail c.args.head c.len-place.result c.args.first c.second_of-second.result c.has_only-binary.result k c.len-within.ensures.within c.requires.vars c.requires.propagating
-    (subst (λ i. i < length c.args.clauses.now.clauses) (sym k) c.requires.more) c.imply.ensures.extends (c.imply.ensures.holds c.if-not-imply.false) f.member m only c.second_of-second.ensures.pairs c.second_of-second.ensures.watches c.second_of-second.ensures.ends
-    (λ rising inside. subst (λ (d : List ℤ). IsEnded c.second_of-second.new.self.ends.items c.imply.new.trail.lits d (record { first = c.args.first; second = c.second_of-second.result })) c.clause-clause.ensures.same (c.second_of-second.ensures.ended rising inside))
-    (c.watch_both.ensures.watches c.if-watch_both.true) (c.watch_both.ensures.pairs c.if-watch_both.true) c.watch_both.ensures.ends
+    let m : has (clause_no c.args.clauses.now.clauses (length c.args.self.now.watches.pairs)) c.second_of-second.result ≡ true = ap (λ (d : List ℤ). has d c.second_of-second.result) (sym (c.clause-clause.ensures.same ∙ ap (clause_no c.args.clauses.now.clauses) c.clauses-place.ensures.pairs)) ∙ c.second_of-second.ensures.member in
+    let at : IsAttached (clause_no c.args.clauses.now.clauses (length c.args.self.now.watches.pairs)) c.second_of-second.new.self.watches c.watch_both.new.self.watches c.args.first c.second_of-second.result = subst (λ (d : List ℤ). IsAttached d c.second_of-second.new.self.watches c.watch_both.new.self.watches c.args.first c.second_of-second.result) (c.clause-clause.ensures.same ∙ ap (clause_no c.args.clauses.now.clauses) c.clauses-place.ensures.pairs) (c.watch_both.ensures.watches c.if-watch_both.true) in
+    propagating-lone c.args.clauses.now.clauses c.args.clauses.now.vars c.args.self.now c.second_of-second.new.self c.watch_both.new.self c.args.trail.now c.imply.new.trail c.args.head (length c.args.self.now.watches.pairs) c.args.first c.second_of-second.result refl c.len-within.ensures.within c.requires.vars c.requires.propagating c.requires.more c.imply.ensures.extends (c.imply.ensures.holds c.if-not-imply.false) c.requires.first.member m c.second_of-second.ensures.watches c.second_of-second.ensures.ends
+    (λ rising inside. subst (λ (d : List ℤ). IsEnded c.second_of-second.new.self.ends.items c.imply.new.trail.lits d (record { first = c.args.first; second = c.second_of-second.result })) (c.clause-clause.ensures.same ∙ ap (clause_no c.args.clauses.now.clauses) c.clauses-place.ensures.pairs) (c.second_of-second.ensures.ended rising inside))
+    at c.watch_both.ensures.ends
+
+pub returns-then-watch_both-clause-next : goal.returns-then-watch_both-clause-next
+returns-then-watch_both-clause-next c =
+    ap length (c.watch_both.ensures.watches c.if-watch_both.true).pairs ∙ (length_push c.second_of-second.new.self.watches.pairs (record { first = c.args.first; second = c.second_of-second.result }) ∙ ap (λ (ws : Plain). length ws.pairs + 1) c.second_of-second.ensures.watches)

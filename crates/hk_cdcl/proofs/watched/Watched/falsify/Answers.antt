@@ -1,19 +1,21 @@
-use Rattle.std.proofs.Common.{neg_ℤ, ◌∙◌, ap}
+use Rattle.std.proofs.Common.{◌≡◌, ◌≢◌, ◌⊎◌, ◌+◌, ◌*◌, ◌<◌, ◌≤◌, ◌^◌, ℕ, Bool, true, false, List, [], length, take, ℤ, pos, neg_ℤ, refl, sym, ◌∙◌, ap, subst, arith}
+use Rattle.std.specs.List.{All}
+use Rattle.hk_cnf.specs.Literal.{IsWithin, code_of, has}
+use Rattle.hk_cdcl.specs.declared.watched.Watched.{Watched}
+use Rattle.hk_cdcl.specs.Looking.{IsOther, IsOtherOf}
+use Rattle.hk_cdcl.specs.Records.{lit_of, text_at}
+use Rattle.hk_cdcl.specs.Watches.{Plain, clause_in, plain_of, watches_of}
+use Rattle.hk_cdcl.specs.Watching.{clause_no}
 use Rattle.hk_cdcl.proofs.Extending.{extends-refl, extends-trans}
 use Rattle.hk_cdcl.proofs.Moving.{turning-begins}
+use Rattle.hk_cdcl.proofs.Codes.{lit-code}
 use Rattle.hk_cdcl.proofs.watched.Watched.falsify.Goals as goal
 
-pub loop-place-init : goal.loop-place-init
-loop-place-init c = (extends-refl c.args.clauses.now.clauses c.args.trail.now, turning-begins c.args.clauses.now.clauses c.args.self.now c.args.trail.now c.args.head c.negated-lit.result c.requires.propagating c.requires.inside (c.negated-lit.ensures.value ∙ ap neg_ℤ c.lit.ensures) c.negated-lit.ensures.negation.nonzero)
+pub visit_all-requires-clause-turning : goal.visit_all-requires-clause-turning
+visit_all-requires-clause-turning c =
+    let nz : c.negated.result ≢ pos 0 = c.negated.ensures.negation.nonzero in
+    let e : lit_of c.code-code.result ≡ c.negated.result = ap lit_of c.code-code.ensures.value ∙ lit-code c.negated.result nz in
+    turning-begins c.args.clauses.now.clauses c.args.self.now c.args.trail.now c.args.head (lit_of c.code-code.result) c.requires.propagating c.requires.inside (e ∙ (c.negated.ensures.value ∙ ap neg_ℤ c.lit.ensures)) (λ z. nz (sym e ∙ z))
 
-pub loop-place-preserved-in-Stays : goal.loop-place-preserved-in-Stays
-loop-place-preserved-in-Stays c = (extends-trans c.args.clauses.now.clauses c.args.trail.now c.loop-place.trail c.visit.new.trail c.loop-place.invariant.0 c.visit.ensures.extends, c.in-Stays.ensures.visited)
-
-pub loop-place-preserved : goal.loop-place-preserved
-loop-place-preserved c = (extends-trans c.args.clauses.now.clauses c.args.trail.now c.loop-place.trail c.visit.new.trail c.loop-place.invariant.0 c.visit.ensures.extends, c.in-Goes.ensures.visited)
-
-pub returns-in-Stops-clause-extends : goal.returns-in-Stops-clause-extends
-returns-in-Stops-clause-extends c = extends-trans c.args.clauses.now.clauses c.args.trail.now c.loop-place.trail c.visit.new.trail c.loop-place.invariant.0 c.visit.ensures.extends
-
-pub returns-in-Wants-clause-extends : goal.returns-in-Wants-clause-extends
-returns-in-Wants-clause-extends c = extends-trans c.args.clauses.now.clauses c.args.trail.now c.loop-place.trail c.visit.new.trail c.loop-place.invariant.0 c.visit.ensures.extends
+pub returns-then-code-from-clause-extends : goal.returns-then-code-from-clause-extends
+returns-then-code-from-clause-extends c = extends-refl c.args.clauses.now.clauses c.args.trail.now

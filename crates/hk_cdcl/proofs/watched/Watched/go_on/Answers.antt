@@ -1,40 +1,42 @@
-use Rattle.std.proofs.Common.{sym, ◌∙◌, false}
-use Rattle.hk_cdcl.proofs.Moving.{other-within, turning-goes, code-inside, head-within}
+use Rattle.std.proofs.Common.{◌≡◌, ◌≢◌, ◌⊎◌, ◌+◌, ◌*◌, ◌<◌, ◌≤◌, ◌^◌, ℕ, Bool, true, false, List, [], length, take, ℤ, pos, neg_ℤ, refl, sym, ◌∙◌, ap, subst, arith}
+use Rattle.std.specs.List.{All}
+use Rattle.hk_cnf.specs.Literal.{IsWithin, code_of, has}
+use Rattle.hk_cdcl.specs.declared.watched.Watched.{Watched}
+use Rattle.hk_cdcl.specs.Looking.{IsOther, IsOtherOf}
+use Rattle.hk_cdcl.specs.Records.{lit_of, text_at}
+use Rattle.hk_cdcl.specs.Watches.{Plain, clause_in, plain_of, watches_of}
+use Rattle.hk_cdcl.specs.Watching.{clause_no}
+use Rattle.hk_cdcl.proofs.Extending.{extends-refl, extends-trans}
+use Rattle.hk_cdcl.proofs.Moving.{other-within, turning-goes}
 use Rattle.hk_cdcl.proofs.Blocking.{moves-inside, blocked-of, stays-blocked, length-blocked}
+use Rattle.hk_cdcl.proofs.Codes.{code-below}
 use Rattle.hk_cdcl.proofs.watched.Watched.go_on.Goals as goal
 
-pub holds-requires : goal.holds-requires
-holds-requires c =
-    other-within c.args.clauses.now.clauses c.args.clauses.now.vars c.args.watch.clause c.args.trail.now c.args.next c.requires.vars c.len-within.ensures.within
-    (moves-inside c.args.clauses.now.clauses c.args.self.now c.args.trail.now c.args.head c.args.lit c.args.place c.args.watch.clause c.args.next c.args.watch.blocker c.args.watch c.requires.turning c.requires.moves) c.requires.moves.found.member
+pub holds_code-requires : goal.holds_code-requires
+holds_code-requires c =
+    other-within c.args.clauses.now.clauses c.args.clauses.now.vars (clause_in c.args.self.now.watches.starts c.args.slot.target) c.args.trail.now (lit_of c.args.next) c.requires.vars c.len-within.ensures.within (moves-inside c.args.clauses.now.clauses c.args.self.now c.args.trail.now c.args.head (lit_of c.args.code) c.args.place (clause_in c.args.self.now.watches.starts c.args.slot.target) (lit_of c.args.next) (lit_of c.args.slot.blocker) (plain_of c.args.self.now.watches.starts c.args.slot) c.requires.turning c.requires.moves) c.requires.moves.found.member
 
-pub block-requires-clause-lit : goal.block-requires-clause-lit
-block-requires-clause-lit c = code-inside c.args.trail.now.vars c.args.self.now.watches c.args.lit (head-within c.args.trail.now c.args.head c.args.lit c.len-path.ensures.path c.requires.turning.at) c.requires.turning.propagating.sized
+pub returns-then-holds_code-clause-visited : goal.returns-then-holds_code-clause-visited
+returns-then-holds_code-clause-visited c =
+    stays-blocked c.args.clauses.now.clauses c.args.clauses.now.vars c.args.self.now c.block.new.self c.args.trail.now c.args.head (lit_of c.args.code) c.args.place (clause_in c.args.self.now.watches.starts c.args.slot.target) (plain_of c.args.self.now.watches.starts (record { blocker = c.args.next; target = c.args.slot.target })) c.len-within.ensures.within c.requires.turning (blocked-of c.args.clauses.now.clauses c.args.self.now c.block.new.self c.args.trail.now c.args.head (lit_of c.args.code) c.args.place (plain_of c.args.self.now.watches.starts (record { blocker = c.args.next; target = c.args.slot.target })) c.len-path.ensures.path c.requires.turning c.requires.moves.place c.requires.moves.clause c.requires.long c.requires.moves.found.member c.block.ensures.ends c.block.ensures.pairs c.block.ensures.texts c.block.ensures.lists) (sym c.holds_code.ensures ∙ c.if-holds_code.true)
 
-pub returns-then-holds-clause-visited : goal.returns-then-holds-clause-visited
-returns-then-holds-clause-visited c =
-    stays-blocked c.args.clauses.now.clauses c.args.clauses.now.vars c.args.self.now c.block.new.self c.args.trail.now c.args.head c.args.lit c.args.place c.args.watch.clause
-    (record { blocker = c.args.next; clause = c.args.watch.clause; resume = c.args.watch.resume; binary = false }) c.len-within.ensures.within c.requires.turning
-    (blocked-of c.args.clauses.now.clauses c.args.self.now c.block.new.self c.args.trail.now c.args.head c.args.lit c.args.place c.args.watch.clause c.args.watch.resume c.args.next c.len-path.ensures.path c.requires.turning c.requires.moves.place c.requires.moves.clause c.requires.moves.found.member c.block.ensures.ends c.block.ensures.pairs c.block.ensures.watches)
-    (sym c.holds.ensures ∙ c.if-holds.true)
-
-pub returns-then-holds-clause-fewer : goal.returns-then-holds-clause-fewer
-returns-then-holds-clause-fewer c =
-    length-blocked c.args.clauses.now.clauses c.args.self.now c.block.new.self c.args.lit c.args.place c.args.watch.clause
-    (record { blocker = c.args.next; clause = c.args.watch.clause; resume = c.args.watch.resume; binary = false })
-    (blocked-of c.args.clauses.now.clauses c.args.self.now c.block.new.self c.args.trail.now c.args.head c.args.lit c.args.place c.args.watch.clause c.args.watch.resume c.args.next c.len-path.ensures.path c.requires.turning c.requires.moves.place c.requires.moves.clause c.requires.moves.found.member c.block.ensures.ends c.block.ensures.pairs c.block.ensures.watches)
-
-pub rewatch-requires-clause-lit : goal.rewatch-requires-clause-lit
-rewatch-requires-clause-lit c = code-inside c.args.trail.now.vars c.args.self.now.watches c.args.lit (head-within c.args.trail.now c.args.head c.args.lit c.len-path.ensures.path c.requires.turning.at) c.requires.turning.propagating.sized
+pub returns-then-holds_code-clause-fewer : goal.returns-then-holds_code-clause-fewer
+returns-then-holds_code-clause-fewer c =
+    length-blocked c.args.clauses.now.clauses c.args.self.now c.block.new.self (lit_of c.args.code) c.args.place (clause_in c.args.self.now.watches.starts c.args.slot.target) (plain_of c.args.self.now.watches.starts (record { blocker = c.args.next; target = c.args.slot.target })) (blocked-of c.args.clauses.now.clauses c.args.self.now c.block.new.self c.args.trail.now c.args.head (lit_of c.args.code) c.args.place (plain_of c.args.self.now.watches.starts (record { blocker = c.args.next; target = c.args.slot.target })) c.len-path.ensures.path c.requires.turning c.requires.moves.place c.requires.moves.clause c.requires.long c.requires.moves.found.member c.block.ensures.ends c.block.ensures.pairs c.block.ensures.texts c.block.ensures.lists)
 
 pub rewatch-requires-clause-next : goal.rewatch-requires-clause-next
 rewatch-requires-clause-next c =
-    code-inside c.args.trail.now.vars c.args.self.now.watches c.args.next
-    (other-within c.args.clauses.now.clauses c.args.clauses.now.vars c.args.watch.clause c.args.trail.now c.args.next c.requires.vars c.len-within.ensures.within
-    (moves-inside c.args.clauses.now.clauses c.args.self.now c.args.trail.now c.args.head c.args.lit c.args.place c.args.watch.clause c.args.next c.args.watch.blocker c.args.watch c.requires.turning c.requires.moves) c.requires.moves.found.member) c.requires.turning.propagating.sized
+    let b : c.args.next < 2 * c.args.trail.now.vars = code-below c.args.trail.now.vars c.args.next (other-within c.args.clauses.now.clauses c.args.clauses.now.vars (clause_in c.args.self.now.watches.starts c.args.slot.target) c.args.trail.now (lit_of c.args.next) c.requires.vars c.len-within.ensures.within (moves-inside c.args.clauses.now.clauses c.args.self.now c.args.trail.now c.args.head (lit_of c.args.code) c.args.place (clause_in c.args.self.now.watches.starts c.args.slot.target) (lit_of c.args.next) (lit_of c.args.slot.blocker) (plain_of c.args.self.now.watches.starts c.args.slot) c.requires.turning c.requires.moves) c.requires.moves.found.member) in
+    let s : 2 * c.args.trail.now.vars ≤ length c.args.self.now.watches.lists = c.requires.turning.propagating.sized in
+    omega (arith, b, s)
+
+pub rewatch-requires-clause-inside : goal.rewatch-requires-clause-inside
+rewatch-requires-clause-inside c =
+    let i : (clause_in c.args.self.now.watches.starts c.args.slot.target) < length c.args.self.now.watches.pairs = c.requires.moves.inside in
+    let p : c.clauses-count.result ≡ length c.args.self.now.watches.pairs = c.clauses-count.ensures.pairs in
+    let s : c.clauses-count.result ≡ length c.args.self.now.watches.starts = c.clauses-count.ensures.starts in
+    omega (arith, i, p, s)
 
 pub returns-then-rewatch-clause-visited : goal.returns-then-rewatch-clause-visited
 returns-then-rewatch-clause-visited c =
-    turning-goes c.args.clauses.now.clauses c.args.clauses.now.vars c.args.self.now c.rewatch.new.self c.args.trail.now c.args.head c.args.lit c.args.place c.args.watch.clause c.args.next c.args.watch.blocker
-    c.args.watch c.len-within.ensures.within c.requires.turning c.rewatch.ensures.ends
-    (c.rewatch.ensures.pairs c.if-rewatch.true) (c.rewatch.ensures.count c.if-rewatch.true) (c.rewatch.ensures.watches c.if-rewatch.true) c.requires.moves
+    turning-goes c.args.clauses.now.clauses c.args.clauses.now.vars c.args.self.now _ c.args.trail.now c.args.head (lit_of c.args.code) c.args.place (clause_in c.args.self.now.watches.starts c.args.slot.target) (lit_of c.args.next) (lit_of c.args.slot.blocker) (plain_of c.args.self.now.watches.starts c.args.slot) c.len-within.ensures.within c.requires.turning refl (c.rewatch.ensures.pairs c.if-rewatch.true) (c.rewatch.ensures.count c.if-rewatch.true) c.rewatch.ensures.texts (c.rewatch.ensures.lists c.if-rewatch.true) c.requires.moves

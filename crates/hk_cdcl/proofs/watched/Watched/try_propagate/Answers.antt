@@ -16,6 +16,6 @@ settle_all-requires-clause-propagating c =
 
 pub returns-clause-propagated : goal.returns-clause-propagated
 returns-clause-propagated c =
-    let n : vec_len c.settle_all.new.self.pairs ≡ length c.settle_all.new.self.pairs.items = grind (arith, common_steps) in
-    ended-quiet c.args.clauses.now.clauses c.settle_all.new.self c.end.new.self c.settle_all.new.trail c.len-4.ensures.path c.in-Quiet.ensures.came (omega arith) c.end.ensures.watches c.end.ensures.pairs
-    (subst (EndsMore c.settle_all.new.self.ends.items c.end.new.self.ends.items) c.len-4.ensures.value c.end.ensures.ends)
+    let n : c.clauses.result ≡ length c.settle_all.new.self.watches.pairs = c.clauses.ensures.pairs in
+    ended-quiet c.args.clauses.now.clauses c.settle_all.new.self c.end.new.self c.settle_all.new.trail c.len-3.ensures.path c.in-Quiet.ensures.came (omega arith) c.end.ensures.watches
+    (subst (EndsMore c.settle_all.new.self.ends.items c.end.new.self.ends.items) c.len-3.ensures.value c.end.ensures.ends)

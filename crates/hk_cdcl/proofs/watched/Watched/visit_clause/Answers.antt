@@ -1,61 +1,138 @@
-use Rattle.std.proofs.Common.{◌≡◌, true, false, List, ℤ, sym, ◌∙◌, subst}
-use Rattle.hk_cnf.specs.Literal.{has}
-use Rattle.hk_cdcl.specs.Watching.{clause_no, pair_at, IsOther, IsOtherOf}
-use Rattle.hk_cdcl.proofs.Extending.{extends-refl}
-use Rattle.hk_cdcl.proofs.Moving.{read-inside-all, other-within, visited-settled}
-use Rattle.hk_cdcl.proofs.Blocking.{Blocked, blocked-of, other-read, other-read-member, turning-blocked, clause-blocked, stays-blocked, moves-blocked, left-other}
+use Rattle.std.proofs.Common.{◌≡◌, ◌≢◌, ◌⊎◌, ◌+◌, ◌*◌, ◌<◌, ◌≤◌, ◌^◌, ℕ, Bool, true, false, List, [], length, take, ℤ, pos, neg_ℤ, refl, sym, ◌∙◌, ap, subst, arith}
+use Rattle.std.specs.List.{All}
+use Rattle.hk_cnf.specs.Literal.{IsWithin, code_of, has}
+use Rattle.hk_cdcl.specs.declared.watched.Watched.{Watched}
+use Rattle.hk_cdcl.specs.Looking.{IsOther, IsOtherOf}
+use Rattle.hk_cdcl.specs.Records.{lit_of, text_at}
+use Rattle.hk_cdcl.specs.Watches.{Plain, clause_in, plain_of, watches_of}
+use Rattle.hk_cdcl.specs.Watching.{clause_no}
+use Rattle.hk_cdcl.proofs.Extending.{extends-refl, extends-trans}
+use Rattle.hk_cdcl.proofs.Moving.{visited-settled, fewer-settled}
+use Rattle.hk_cdcl.proofs.Blocking.{Blocked, turning-blocked, clause-blocked, stays-blocked, length-blocked, fewer-blocked}
+use Rattle.hk_cdcl.proofs.Looks.{Look, look-start, look-inside, look-text, look-lits, other-member, other-in, look-blocked, blocked-inside, look-moves}
 use Rattle.hk_cdcl.proofs.watched.Watched.visit_clause.Goals as goal
 
+pub other-requires-clause-inside : goal.other-requires-clause-inside
+other-requires-clause-inside c =
+    let h : Look c.args.clauses.now.clauses c.args.clauses.now.vars c.args.self.now c.args.trail.now c.args.head c.args.code c.args.place c.args.slot = record { turning = c.requires.turning; listed = c.requires.place; is = c.requires.slot; equal = c.requires.vars; within = c.len-within.ensures.within; pairs = sym c.clauses-count.ensures.pairs ∙ c.clauses-count.ensures.starts; texts = sym c.clauses-count.ensures.texts ∙ c.clauses-count.ensures.starts } in
+    look-start c.args.clauses.now.clauses c.args.clauses.now.vars c.args.self.now c.args.trail.now c.args.head c.args.code c.args.place c.args.slot h
+
 pub returns-in_default-clause-extends : goal.returns-in_default-clause-extends
-returns-in_default-clause-extends c = extends-refl c.args.clauses.now.clauses c.args.trail.now
+returns-in_default-clause-extends c =
+    extends-refl c.args.clauses.now.clauses c.args.trail.now
 
-pub holds-requires : goal.holds-requires
-holds-requires c =
-    let o : IsOtherOf (pair_at c.args.self.now.pairs.items c.args.watch.clause) c.args.lit c.in-Some.other = other-read c.args.clauses.now.clauses c.args.self.now c.args.trail.now c.args.head c.args.lit c.args.place c.args.watch.clause c.in-Some.other c.index.result.now c.requires.turning c.requires.place c.requires.clause c.index.ensures c.in-Some.ensures in
-    let m : has (clause_no c.args.clauses.now.clauses c.args.watch.clause) c.in-Some.other ≡ true = other-read-member c.args.clauses.now.clauses c.args.self.now c.args.trail.now c.args.head c.args.lit c.args.place c.args.watch.clause c.in-Some.other c.requires.turning c.requires.place c.requires.clause o in
-    other-within c.args.clauses.now.clauses c.args.clauses.now.vars c.args.watch.clause c.args.trail.now c.in-Some.other c.requires.vars c.len-within.ensures.within (read-inside-all c.args.clauses.now.clauses c.args.self.now c.args.trail.now c.args.head c.args.lit c.args.place c.args.watch.clause c.requires.turning c.requires.place c.requires.clause) m
+pub holds_code-requires : goal.holds_code-requires
+holds_code-requires c =
+    let h : Look c.args.clauses.now.clauses c.args.clauses.now.vars c.args.self.now c.args.trail.now c.args.head c.args.code c.args.place c.args.slot = record { turning = c.requires.turning; listed = c.requires.place; is = c.requires.slot; equal = c.requires.vars; within = c.len-within.ensures.within; pairs = sym c.clauses-count.ensures.pairs ∙ c.clauses-count.ensures.starts; texts = sym c.clauses-count.ensures.texts ∙ c.clauses-count.ensures.starts } in
+    other-in c.args.clauses.now.clauses c.args.clauses.now.vars c.args.self.now c.args.trail.now c.args.head c.args.code c.args.place c.args.slot c.in-Some.other h c.in-Some.ensures
 
-pub returns-then-holds-clause-extends : goal.returns-then-holds-clause-extends
-returns-then-holds-clause-extends c = extends-refl c.args.clauses.now.clauses c.args.trail.now
+pub returns-then-holds_code-clause-extends : goal.returns-then-holds_code-clause-extends
+returns-then-holds_code-clause-extends c =
+    extends-refl c.args.clauses.now.clauses c.args.trail.now
 
-pub returns-then-holds-clause-visited : goal.returns-then-holds-clause-visited
-returns-then-holds-clause-visited c =
-    let o : IsOtherOf (pair_at c.args.self.now.pairs.items c.args.watch.clause) c.args.lit c.in-Some.other = other-read c.args.clauses.now.clauses c.args.self.now c.args.trail.now c.args.head c.args.lit c.args.place c.args.watch.clause c.in-Some.other c.index.result.now c.requires.turning c.requires.place c.requires.clause c.index.ensures c.in-Some.ensures in
-    let m : has (clause_no c.args.clauses.now.clauses c.args.watch.clause) c.in-Some.other ≡ true = other-read-member c.args.clauses.now.clauses c.args.self.now c.args.trail.now c.args.head c.args.lit c.args.place c.args.watch.clause c.in-Some.other c.requires.turning c.requires.place c.requires.clause o in
-    let b : Blocked c.args.clauses.now.clauses c.args.self.now c.block.new.self c.args.lit c.args.place c.args.watch.clause (record { blocker = c.in-Some.other; clause = c.args.watch.clause; resume = c.args.watch.resume; binary = false }) =
-    blocked-of c.args.clauses.now.clauses c.args.self.now c.block.new.self c.args.trail.now c.args.head c.args.lit c.args.place c.args.watch.clause c.args.watch.resume c.in-Some.other c.len-path.ensures.path c.requires.turning c.requires.place c.requires.clause m c.block.ensures.ends c.block.ensures.pairs c.block.ensures.watches in
-    stays-blocked c.args.clauses.now.clauses c.args.clauses.now.vars c.args.self.now c.block.new.self c.args.trail.now c.args.head c.args.lit c.args.place c.args.watch.clause (record { blocker = c.in-Some.other; clause = c.args.watch.clause; resume = c.args.watch.resume; binary = false }) c.len-within.ensures.within c.requires.turning b (sym c.holds.ensures ∙ c.if-holds.true)
+pub returns-then-holds_code-clause-visited : goal.returns-then-holds_code-clause-visited
+returns-then-holds_code-clause-visited c =
+    let h : Look c.args.clauses.now.clauses c.args.clauses.now.vars c.args.self.now c.args.trail.now c.args.head c.args.code c.args.place c.args.slot = record { turning = c.requires.turning; listed = c.requires.place; is = c.requires.slot; equal = c.requires.vars; within = c.len-within.ensures.within; pairs = sym c.clauses-count.ensures.pairs ∙ c.clauses-count.ensures.starts; texts = sym c.clauses-count.ensures.texts ∙ c.clauses-count.ensures.starts } in
+    stays-blocked c.args.clauses.now.clauses c.args.clauses.now.vars c.args.self.now c.block.new.self c.args.trail.now c.args.head (lit_of c.args.code) c.args.place (clause_in c.args.self.now.watches.starts c.args.slot.target) (plain_of c.args.self.now.watches.starts (record { blocker = c.in-Some.other; target = c.args.slot.target })) c.len-within.ensures.within c.requires.turning (look-blocked c.args.clauses.now.clauses c.args.clauses.now.vars c.args.self.now c.block.new.self c.args.trail.now c.args.head c.args.code c.args.place c.args.slot c.in-Some.other c.len-path.ensures.path h c.requires.long c.in-Some.ensures c.block.ensures.ends c.block.ensures.pairs c.block.ensures.texts c.block.ensures.lists) (sym c.holds_code.ensures ∙ c.if-holds_code.true)
+
+pub returns-then-holds_code-clause-fewer : goal.returns-then-holds_code-clause-fewer
+returns-then-holds_code-clause-fewer c =
+    let h : Look c.args.clauses.now.clauses c.args.clauses.now.vars c.args.self.now c.args.trail.now c.args.head c.args.code c.args.place c.args.slot = record { turning = c.requires.turning; listed = c.requires.place; is = c.requires.slot; equal = c.requires.vars; within = c.len-within.ensures.within; pairs = sym c.clauses-count.ensures.pairs ∙ c.clauses-count.ensures.starts; texts = sym c.clauses-count.ensures.texts ∙ c.clauses-count.ensures.starts } in
+    length-blocked c.args.clauses.now.clauses c.args.self.now c.block.new.self (lit_of c.args.code) c.args.place (clause_in c.args.self.now.watches.starts c.args.slot.target) (plain_of c.args.self.now.watches.starts (record { blocker = c.in-Some.other; target = c.args.slot.target })) (look-blocked c.args.clauses.now.clauses c.args.clauses.now.vars c.args.self.now c.block.new.self c.args.trail.now c.args.head c.args.code c.args.place c.args.slot c.in-Some.other c.len-path.ensures.path h c.requires.long c.in-Some.ensures c.block.ensures.ends c.block.ensures.pairs c.block.ensures.texts c.block.ensures.lists)
+
+pub left-requires-clause-inside : goal.left-requires-clause-inside
+left-requires-clause-inside c =
+    let h : Look c.args.clauses.now.clauses c.args.clauses.now.vars c.args.self.now c.args.trail.now c.args.head c.args.code c.args.place c.args.slot = record { turning = c.requires.turning; listed = c.requires.place; is = c.requires.slot; equal = c.requires.vars; within = c.len-within.ensures.within; pairs = sym c.clauses-count.ensures.pairs ∙ c.clauses-count.ensures.starts; texts = sym c.clauses-count.ensures.texts ∙ c.clauses-count.ensures.starts } in
+    subst (λ ss. clause_in ss c.args.slot.target < length ss) (sym c.block.ensures.starts) (look-start c.args.clauses.now.clauses c.args.clauses.now.vars c.args.self.now c.args.trail.now c.args.head c.args.code c.args.place c.args.slot h)
+
+pub left-requires-clause-within : goal.left-requires-clause-within
+left-requires-clause-within c =
+    let h : Look c.args.clauses.now.clauses c.args.clauses.now.vars c.args.self.now c.args.trail.now c.args.head c.args.code c.args.place c.args.slot = record { turning = c.requires.turning; listed = c.requires.place; is = c.requires.slot; equal = c.requires.vars; within = c.len-within.ensures.within; pairs = sym c.clauses-count.ensures.pairs ∙ c.clauses-count.ensures.starts; texts = sym c.clauses-count.ensures.texts ∙ c.clauses-count.ensures.starts } in
+    subst (All (IsWithin c.args.trail.now.vars)) (sym (ap (λ ts. text_at ts (clause_in c.block.new.self.watches.starts c.args.slot.target)) c.block.ensures.texts ∙ ap (λ ss. text_at c.args.self.now.watches.texts (clause_in ss c.args.slot.target)) c.block.ensures.starts)) (look-lits c.args.clauses.now.clauses c.args.clauses.now.vars c.args.self.now c.args.trail.now c.args.head c.args.code c.args.place c.args.slot h)
+
+pub clause-clause-requires : goal.clause-clause-requires
+clause-clause-requires c =
+    let h : Look c.args.clauses.now.clauses c.args.clauses.now.vars c.args.self.now c.args.trail.now c.args.head c.args.code c.args.place c.args.slot = record { turning = c.requires.turning; listed = c.requires.place; is = c.requires.slot; equal = c.requires.vars; within = c.len-within.ensures.within; pairs = sym c.clauses-count.ensures.pairs ∙ c.clauses-count.ensures.starts; texts = sym c.clauses-count.ensures.texts ∙ c.clauses-count.ensures.starts } in
+    subst (λ ss. clause_in ss c.args.slot.target < length ss) (sym (ap (λ (x : Plain). x.starts) c.left.ensures.same ∙ c.block.ensures.starts)) (look-start c.args.clauses.now.clauses c.args.clauses.now.vars c.args.self.now c.args.trail.now c.args.head c.args.code c.args.place c.args.slot h)
+
+pub settle-requires-clause-inside : goal.settle-requires-clause-inside
+settle-requires-clause-inside c =
+    let h : Look c.args.clauses.now.clauses c.args.clauses.now.vars c.args.self.now c.args.trail.now c.args.head c.args.code c.args.place c.args.slot = record { turning = c.requires.turning; listed = c.requires.place; is = c.requires.slot; equal = c.requires.vars; within = c.len-within.ensures.within; pairs = sym c.clauses-count.ensures.pairs ∙ c.clauses-count.ensures.starts; texts = sym c.clauses-count.ensures.texts ∙ c.clauses-count.ensures.starts } in
+    let es : c.left.new.self.starts ≡ c.args.self.now.watches.starts = ap (λ (x : Plain). x.starts) c.left.ensures.same ∙ c.block.ensures.starts in
+    let k : c.clause-clause.result ≡ (clause_in c.args.self.now.watches.starts c.args.slot.target) = c.clause-clause.ensures ∙ ap (λ ss. clause_in ss c.args.slot.target) es in
+    subst (λ i. i < length c.args.clauses.now.clauses) (sym k) (look-inside c.args.clauses.now.clauses c.args.clauses.now.vars c.args.self.now c.args.trail.now c.args.head c.args.code c.args.place c.args.slot h)
 
 pub settle-requires-clause-within : goal.settle-requires-clause-within
 settle-requires-clause-within c =
-    let o : IsOtherOf (pair_at c.args.self.now.pairs.items c.args.watch.clause) c.args.lit c.in-Some.other = other-read c.args.clauses.now.clauses c.args.self.now c.args.trail.now c.args.head c.args.lit c.args.place c.args.watch.clause c.in-Some.other c.index.result.now c.requires.turning c.requires.place c.requires.clause c.index.ensures c.in-Some.ensures in
-    let m : has (clause_no c.args.clauses.now.clauses c.args.watch.clause) c.in-Some.other ≡ true = other-read-member c.args.clauses.now.clauses c.args.self.now c.args.trail.now c.args.head c.args.lit c.args.place c.args.watch.clause c.in-Some.other c.requires.turning c.requires.place c.requires.clause o in
-    other-within c.args.clauses.now.clauses c.args.clauses.now.vars c.args.watch.clause c.args.trail.now c.in-Some.other c.requires.vars c.len-within.ensures.within (read-inside-all c.args.clauses.now.clauses c.args.self.now c.args.trail.now c.args.head c.args.lit c.args.place c.args.watch.clause c.requires.turning c.requires.place c.requires.clause) m
+    let h : Look c.args.clauses.now.clauses c.args.clauses.now.vars c.args.self.now c.args.trail.now c.args.head c.args.code c.args.place c.args.slot = record { turning = c.requires.turning; listed = c.requires.place; is = c.requires.slot; equal = c.requires.vars; within = c.len-within.ensures.within; pairs = sym c.clauses-count.ensures.pairs ∙ c.clauses-count.ensures.starts; texts = sym c.clauses-count.ensures.texts ∙ c.clauses-count.ensures.starts } in
+    subst (IsWithin c.args.trail.now.vars) (sym c.literal.ensures) (other-in c.args.clauses.now.clauses c.args.clauses.now.vars c.args.self.now c.args.trail.now c.args.head c.args.code c.args.place c.args.slot c.in-Some.other h c.in-Some.ensures)
 
-pub returns-in_default-left_from-clause-visited : goal.returns-in_default-left_from-clause-visited
-returns-in_default-left_from-clause-visited c =
-    let o : IsOtherOf (pair_at c.args.self.now.pairs.items c.args.watch.clause) c.args.lit c.in-Some.other = other-read c.args.clauses.now.clauses c.args.self.now c.args.trail.now c.args.head c.args.lit c.args.place c.args.watch.clause c.in-Some.other c.index.result.now c.requires.turning c.requires.place c.requires.clause c.index.ensures c.in-Some.ensures in
-    let m : has (clause_no c.args.clauses.now.clauses c.args.watch.clause) c.in-Some.other ≡ true = other-read-member c.args.clauses.now.clauses c.args.self.now c.args.trail.now c.args.head c.args.lit c.args.place c.args.watch.clause c.in-Some.other c.requires.turning c.requires.place c.requires.clause o in
-    let b : Blocked c.args.clauses.now.clauses c.args.self.now c.block.new.self c.args.lit c.args.place c.args.watch.clause (record { blocker = c.in-Some.other; clause = c.args.watch.clause; resume = c.args.watch.resume; binary = false }) =
-    blocked-of c.args.clauses.now.clauses c.args.self.now c.block.new.self c.args.trail.now c.args.head c.args.lit c.args.place c.args.watch.clause c.args.watch.resume c.in-Some.other c.len-path.ensures.path c.requires.turning c.requires.place c.requires.clause m c.block.ensures.ends c.block.ensures.pairs c.block.ensures.watches in
-    visited-settled c.args.clauses.now.clauses c.block.new.self c.args.trail.now c.settle.new.trail c.args.head c.args.lit c.args.place c.args.watch.clause c.settle.result (turning-blocked c.args.clauses.now.clauses c.args.clauses.now.vars c.args.self.now c.block.new.self c.args.trail.now c.args.head c.args.lit c.args.place c.args.watch.clause (record { blocker = c.in-Some.other; clause = c.args.watch.clause; resume = c.args.watch.resume; binary = false }) c.len-within.ensures.within c.requires.turning b) c.settle.ensures.extends (clause-blocked c.args.clauses.now.clauses c.args.self.now c.block.new.self c.args.lit c.args.place c.args.watch.clause (record { blocker = c.in-Some.other; clause = c.args.watch.clause; resume = c.args.watch.resume; binary = false }) b) c.settle.ensures.settled
+pub settle-requires-clause-member : goal.settle-requires-clause-member
+settle-requires-clause-member c =
+    let h : Look c.args.clauses.now.clauses c.args.clauses.now.vars c.args.self.now c.args.trail.now c.args.head c.args.code c.args.place c.args.slot = record { turning = c.requires.turning; listed = c.requires.place; is = c.requires.slot; equal = c.requires.vars; within = c.len-within.ensures.within; pairs = sym c.clauses-count.ensures.pairs ∙ c.clauses-count.ensures.starts; texts = sym c.clauses-count.ensures.texts ∙ c.clauses-count.ensures.starts } in
+    let es : c.left.new.self.starts ≡ c.args.self.now.watches.starts = ap (λ (x : Plain). x.starts) c.left.ensures.same ∙ c.block.ensures.starts in
+    let k : c.clause-clause.result ≡ (clause_in c.args.self.now.watches.starts c.args.slot.target) = c.clause-clause.ensures ∙ ap (λ ss. clause_in ss c.args.slot.target) es in
+    ap (λ i. has (clause_no c.args.clauses.now.clauses i) c.literal.result) k ∙ (ap (has (clause_no c.args.clauses.now.clauses (clause_in c.args.self.now.watches.starts c.args.slot.target))) c.literal.ensures ∙ other-member c.args.clauses.now.clauses c.args.clauses.now.vars c.args.self.now c.args.trail.now c.args.head c.args.code c.args.place c.args.slot c.in-Some.other h c.in-Some.ensures)
+
+pub settle-requires-clause-others : goal.settle-requires-clause-others
+settle-requires-clause-others c =
+    let h : Look c.args.clauses.now.clauses c.args.clauses.now.vars c.args.self.now c.args.trail.now c.args.head c.args.code c.args.place c.args.slot = record { turning = c.requires.turning; listed = c.requires.place; is = c.requires.slot; equal = c.requires.vars; within = c.len-within.ensures.within; pairs = sym c.clauses-count.ensures.pairs ∙ c.clauses-count.ensures.starts; texts = sym c.clauses-count.ensures.texts ∙ c.clauses-count.ensures.starts } in
+    let es : c.left.new.self.starts ≡ c.args.self.now.watches.starts = ap (λ (x : Plain). x.starts) c.left.ensures.same ∙ c.block.ensures.starts in
+    let k : c.clause-clause.result ≡ (clause_in c.args.self.now.watches.starts c.args.slot.target) = c.clause-clause.ensures ∙ ap (λ ss. clause_in ss c.args.slot.target) es in
+    subst (λ l. All (λ x. (l ≡ x) ⊎ (has c.args.trail.now.lits (neg_ℤ x) ≡ true)) (clause_no c.args.clauses.now.clauses c.clause-clause.result)) (sym c.literal.ensures)
+    (subst (λ i. All (λ x. (lit_of c.in-Some.other ≡ x) ⊎ (has c.args.trail.now.lits (neg_ℤ x) ≡ true)) (clause_no c.args.clauses.now.clauses i)) (sym k)
+    (subst (All (λ x. (lit_of c.in-Some.other ≡ x) ⊎ (has c.args.trail.now.lits (neg_ℤ x) ≡ true))) ((ap (λ ts. text_at ts (clause_in c.block.new.self.watches.starts c.args.slot.target)) c.block.ensures.texts ∙ ap (λ ss. text_at c.args.self.now.watches.texts (clause_in ss c.args.slot.target)) c.block.ensures.starts) ∙ look-text c.args.clauses.now.clauses c.args.clauses.now.vars c.args.self.now c.args.trail.now c.args.head c.args.code c.args.place c.args.slot h) c.in_default-left.ensures.left))
+
+pub returns-in_default-left-clause-visited : goal.returns-in_default-left-clause-visited
+returns-in_default-left-clause-visited c =
+    let h : Look c.args.clauses.now.clauses c.args.clauses.now.vars c.args.self.now c.args.trail.now c.args.head c.args.code c.args.place c.args.slot = record { turning = c.requires.turning; listed = c.requires.place; is = c.requires.slot; equal = c.requires.vars; within = c.len-within.ensures.within; pairs = sym c.clauses-count.ensures.pairs ∙ c.clauses-count.ensures.starts; texts = sym c.clauses-count.ensures.texts ∙ c.clauses-count.ensures.starts } in
+    let es : c.left.new.self.starts ≡ c.args.self.now.watches.starts = ap (λ (x : Plain). x.starts) c.left.ensures.same ∙ c.block.ensures.starts in
+    let b : Blocked c.args.clauses.now.clauses c.args.self.now (record c.block.new.self { watches = c.left.new.self }) (lit_of c.args.code) c.args.place (clause_in c.args.self.now.watches.starts c.args.slot.target) (plain_of c.args.self.now.watches.starts (record { blocker = c.in-Some.other; target = c.args.slot.target })) =
+    look-blocked c.args.clauses.now.clauses c.args.clauses.now.vars c.args.self.now (record c.block.new.self { watches = c.left.new.self }) c.args.trail.now c.args.head c.args.code c.args.place c.args.slot c.in-Some.other c.len-path.ensures.path h c.requires.long c.in-Some.ensures c.block.ensures.ends (ap (λ (x : Plain). x.pairs) c.left.ensures.same ∙ c.block.ensures.pairs) (ap (λ (x : Plain). x.texts) c.left.ensures.same ∙ c.block.ensures.texts) (ap (λ (x : Plain). x.lists) c.left.ensures.same ∙ c.block.ensures.lists) in
+    let k : c.clause-clause.result ≡ (clause_in c.args.self.now.watches.starts c.args.slot.target) = c.clause-clause.ensures ∙ ap (λ ss. clause_in ss c.args.slot.target) es in
+    visited-settled c.args.clauses.now.clauses (record c.block.new.self { watches = c.left.new.self }) c.args.trail.now c.settle.new.trail c.args.head (lit_of c.args.code) c.args.place c.clause-clause.result c.settle.result (turning-blocked c.args.clauses.now.clauses c.args.clauses.now.vars c.args.self.now (record c.block.new.self { watches = c.left.new.self }) c.args.trail.now c.args.head (lit_of c.args.code) c.args.place (clause_in c.args.self.now.watches.starts c.args.slot.target) (plain_of c.args.self.now.watches.starts (record { blocker = c.in-Some.other; target = c.args.slot.target })) c.len-within.ensures.within c.requires.turning b) c.settle.ensures.extends (clause-blocked c.args.clauses.now.clauses c.args.self.now (record c.block.new.self { watches = c.left.new.self }) (lit_of c.args.code) c.args.place (clause_in c.args.self.now.watches.starts c.args.slot.target) (plain_of c.args.self.now.watches.starts (record { blocker = c.in-Some.other; target = c.args.slot.target })) b ∙ sym k) c.settle.ensures.settled
+
+pub returns-in_default-left-clause-fewer : goal.returns-in_default-left-clause-fewer
+returns-in_default-left-clause-fewer c =
+    let h : Look c.args.clauses.now.clauses c.args.clauses.now.vars c.args.self.now c.args.trail.now c.args.head c.args.code c.args.place c.args.slot = record { turning = c.requires.turning; listed = c.requires.place; is = c.requires.slot; equal = c.requires.vars; within = c.len-within.ensures.within; pairs = sym c.clauses-count.ensures.pairs ∙ c.clauses-count.ensures.starts; texts = sym c.clauses-count.ensures.texts ∙ c.clauses-count.ensures.starts } in
+    let es : c.left.new.self.starts ≡ c.args.self.now.watches.starts = ap (λ (x : Plain). x.starts) c.left.ensures.same ∙ c.block.ensures.starts in
+    let b : Blocked c.args.clauses.now.clauses c.args.self.now (record c.block.new.self { watches = c.left.new.self }) (lit_of c.args.code) c.args.place (clause_in c.args.self.now.watches.starts c.args.slot.target) (plain_of c.args.self.now.watches.starts (record { blocker = c.in-Some.other; target = c.args.slot.target })) =
+    look-blocked c.args.clauses.now.clauses c.args.clauses.now.vars c.args.self.now (record c.block.new.self { watches = c.left.new.self }) c.args.trail.now c.args.head c.args.code c.args.place c.args.slot c.in-Some.other c.len-path.ensures.path h c.requires.long c.in-Some.ensures c.block.ensures.ends (ap (λ (x : Plain). x.pairs) c.left.ensures.same ∙ c.block.ensures.pairs) (ap (λ (x : Plain). x.texts) c.left.ensures.same ∙ c.block.ensures.texts) (ap (λ (x : Plain). x.lists) c.left.ensures.same ∙ c.block.ensures.lists) in
+    fewer-blocked c.args.clauses.now.clauses c.args.self.now (record c.block.new.self { watches = c.left.new.self }) c.left.new.self.lists (lit_of c.args.code) c.args.place (clause_in c.args.self.now.watches.starts c.args.slot.target) (plain_of c.args.self.now.watches.starts (record { blocker = c.in-Some.other; target = c.args.slot.target })) c.settle.result b (fewer-settled c.args.clauses.now.clauses c.left.new.self.lists c.settle.new.trail.lits (lit_of c.args.code) c.clause-clause.result c.settle.result c.settle.ensures.settled)
 
 pub go_on-requires-clause-turning : goal.go_on-requires-clause-turning
 go_on-requires-clause-turning c =
-    let o : IsOtherOf (pair_at c.args.self.now.pairs.items c.args.watch.clause) c.args.lit c.in-Some.other = other-read c.args.clauses.now.clauses c.args.self.now c.args.trail.now c.args.head c.args.lit c.args.place c.args.watch.clause c.in-Some.other c.index.result.now c.requires.turning c.requires.place c.requires.clause c.index.ensures c.in-Some.ensures in
-    let m : has (clause_no c.args.clauses.now.clauses c.args.watch.clause) c.in-Some.other ≡ true = other-read-member c.args.clauses.now.clauses c.args.self.now c.args.trail.now c.args.head c.args.lit c.args.place c.args.watch.clause c.in-Some.other c.requires.turning c.requires.place c.requires.clause o in
-    let b : Blocked c.args.clauses.now.clauses c.args.self.now c.block.new.self c.args.lit c.args.place c.args.watch.clause (record { blocker = c.in-Some.other; clause = c.args.watch.clause; resume = c.args.watch.resume; binary = false }) =
-    blocked-of c.args.clauses.now.clauses c.args.self.now c.block.new.self c.args.trail.now c.args.head c.args.lit c.args.place c.args.watch.clause c.args.watch.resume c.in-Some.other c.len-path.ensures.path c.requires.turning c.requires.place c.requires.clause m c.block.ensures.ends c.block.ensures.pairs c.block.ensures.watches in
-    turning-blocked c.args.clauses.now.clauses c.args.clauses.now.vars c.args.self.now c.block.new.self c.args.trail.now c.args.head c.args.lit c.args.place c.args.watch.clause (record { blocker = c.in-Some.other; clause = c.args.watch.clause; resume = c.args.watch.resume; binary = false }) c.len-within.ensures.within c.requires.turning b
+    let h : Look c.args.clauses.now.clauses c.args.clauses.now.vars c.args.self.now c.args.trail.now c.args.head c.args.code c.args.place c.args.slot = record { turning = c.requires.turning; listed = c.requires.place; is = c.requires.slot; equal = c.requires.vars; within = c.len-within.ensures.within; pairs = sym c.clauses-count.ensures.pairs ∙ c.clauses-count.ensures.starts; texts = sym c.clauses-count.ensures.texts ∙ c.clauses-count.ensures.starts } in
+    let es : c.left.new.self.starts ≡ c.args.self.now.watches.starts = ap (λ (x : Plain). x.starts) c.left.ensures.same ∙ c.block.ensures.starts in
+    let b : Blocked c.args.clauses.now.clauses c.args.self.now (record c.block.new.self { watches = c.left.new.self }) (lit_of c.args.code) c.args.place (clause_in c.args.self.now.watches.starts c.args.slot.target) (plain_of c.args.self.now.watches.starts (record { blocker = c.in-Some.other; target = c.args.slot.target })) =
+    look-blocked c.args.clauses.now.clauses c.args.clauses.now.vars c.args.self.now (record c.block.new.self { watches = c.left.new.self }) c.args.trail.now c.args.head c.args.code c.args.place c.args.slot c.in-Some.other c.len-path.ensures.path h c.requires.long c.in-Some.ensures c.block.ensures.ends (ap (λ (x : Plain). x.pairs) c.left.ensures.same ∙ c.block.ensures.pairs) (ap (λ (x : Plain). x.texts) c.left.ensures.same ∙ c.block.ensures.texts) (ap (λ (x : Plain). x.lists) c.left.ensures.same ∙ c.block.ensures.lists) in
+    turning-blocked c.args.clauses.now.clauses c.args.clauses.now.vars c.args.self.now (record c.block.new.self { watches = c.left.new.self }) c.args.trail.now c.args.head (lit_of c.args.code) c.args.place (clause_in c.args.self.now.watches.starts c.args.slot.target) (plain_of c.args.self.now.watches.starts (record { blocker = c.in-Some.other; target = c.args.slot.target })) c.len-within.ensures.within c.requires.turning b
+
+pub go_on-requires-clause-inside : goal.go_on-requires-clause-inside
+go_on-requires-clause-inside c =
+    let h : Look c.args.clauses.now.clauses c.args.clauses.now.vars c.args.self.now c.args.trail.now c.args.head c.args.code c.args.place c.args.slot = record { turning = c.requires.turning; listed = c.requires.place; is = c.requires.slot; equal = c.requires.vars; within = c.len-within.ensures.within; pairs = sym c.clauses-count.ensures.pairs ∙ c.clauses-count.ensures.starts; texts = sym c.clauses-count.ensures.texts ∙ c.clauses-count.ensures.starts } in
+    let es : c.left.new.self.starts ≡ c.args.self.now.watches.starts = ap (λ (x : Plain). x.starts) c.left.ensures.same ∙ c.block.ensures.starts in
+    let b : Blocked c.args.clauses.now.clauses c.args.self.now (record c.block.new.self { watches = c.left.new.self }) (lit_of c.args.code) c.args.place (clause_in c.args.self.now.watches.starts c.args.slot.target) (plain_of c.args.self.now.watches.starts (record { blocker = c.in-Some.other; target = c.args.slot.target })) =
+    look-blocked c.args.clauses.now.clauses c.args.clauses.now.vars c.args.self.now (record c.block.new.self { watches = c.left.new.self }) c.args.trail.now c.args.head c.args.code c.args.place c.args.slot c.in-Some.other c.len-path.ensures.path h c.requires.long c.in-Some.ensures c.block.ensures.ends (ap (λ (x : Plain). x.pairs) c.left.ensures.same ∙ c.block.ensures.pairs) (ap (λ (x : Plain). x.texts) c.left.ensures.same ∙ c.block.ensures.texts) (ap (λ (x : Plain). x.lists) c.left.ensures.same ∙ c.block.ensures.lists) in
+    blocked-inside c.args.clauses.now.clauses c.args.self.now (record c.block.new.self { watches = c.left.new.self }) c.args.code c.args.place (clause_in c.args.self.now.watches.starts c.args.slot.target) (plain_of c.args.self.now.watches.starts (record { blocker = c.in-Some.other; target = c.args.slot.target })) b c.requires.inside
 
 pub go_on-requires-clause-moves : goal.go_on-requires-clause-moves
 go_on-requires-clause-moves c =
-    let o : IsOtherOf (pair_at c.args.self.now.pairs.items c.args.watch.clause) c.args.lit c.in-Some.other = other-read c.args.clauses.now.clauses c.args.self.now c.args.trail.now c.args.head c.args.lit c.args.place c.args.watch.clause c.in-Some.other c.index.result.now c.requires.turning c.requires.place c.requires.clause c.index.ensures c.in-Some.ensures in
-    let m : has (clause_no c.args.clauses.now.clauses c.args.watch.clause) c.in-Some.other ≡ true = other-read-member c.args.clauses.now.clauses c.args.self.now c.args.trail.now c.args.head c.args.lit c.args.place c.args.watch.clause c.in-Some.other c.requires.turning c.requires.place c.requires.clause o in
-    let b : Blocked c.args.clauses.now.clauses c.args.self.now c.block.new.self c.args.lit c.args.place c.args.watch.clause (record { blocker = c.in-Some.other; clause = c.args.watch.clause; resume = c.args.watch.resume; binary = false }) =
-    blocked-of c.args.clauses.now.clauses c.args.self.now c.block.new.self c.args.trail.now c.args.head c.args.lit c.args.place c.args.watch.clause c.args.watch.resume c.in-Some.other c.len-path.ensures.path c.requires.turning c.requires.place c.requires.clause m c.block.ensures.ends c.block.ensures.pairs c.block.ensures.watches in
-    let f : IsOther c.args.trail.now.lits (clause_no c.args.clauses.now.clauses c.args.watch.clause) c.in-Some.other c.lit_of-next.result = subst (λ (d : List ℤ). IsOther c.args.trail.now.lits d c.in-Some.other c.lit_of-next.result) c.clause-lits.ensures.same (left-other c.args.trail.now.lits c.clause-lits.result.now c.in-Some.other c.lit_of-next.result c.in-Some-left_from.at c.in-Some-left_from.ensures c.lit_of-next.ensures) in
-    moves-blocked c.args.clauses.now.clauses c.args.clauses.now.vars c.args.self.now c.block.new.self c.args.trail.now c.args.head c.args.lit c.args.place c.args.watch.clause c.resume_at.result c.lit_of-next.result c.in-Some.other (record { blocker = c.in-Some.other; clause = c.args.watch.clause; resume = c.args.watch.resume; binary = false }) c.long_watch-moved.result c.len-within.ensures.within c.requires.vars c.requires.turning b o f c.long_watch-moved.ensures
+    let h : Look c.args.clauses.now.clauses c.args.clauses.now.vars c.args.self.now c.args.trail.now c.args.head c.args.code c.args.place c.args.slot = record { turning = c.requires.turning; listed = c.requires.place; is = c.requires.slot; equal = c.requires.vars; within = c.len-within.ensures.within; pairs = sym c.clauses-count.ensures.pairs ∙ c.clauses-count.ensures.starts; texts = sym c.clauses-count.ensures.texts ∙ c.clauses-count.ensures.starts } in
+    let es : c.left.new.self.starts ≡ c.args.self.now.watches.starts = ap (λ (x : Plain). x.starts) c.left.ensures.same ∙ c.block.ensures.starts in
+    let b : Blocked c.args.clauses.now.clauses c.args.self.now (record c.block.new.self { watches = c.left.new.self }) (lit_of c.args.code) c.args.place (clause_in c.args.self.now.watches.starts c.args.slot.target) (plain_of c.args.self.now.watches.starts (record { blocker = c.in-Some.other; target = c.args.slot.target })) =
+    look-blocked c.args.clauses.now.clauses c.args.clauses.now.vars c.args.self.now (record c.block.new.self { watches = c.left.new.self }) c.args.trail.now c.args.head c.args.code c.args.place c.args.slot c.in-Some.other c.len-path.ensures.path h c.requires.long c.in-Some.ensures c.block.ensures.ends (ap (λ (x : Plain). x.pairs) c.left.ensures.same ∙ c.block.ensures.pairs) (ap (λ (x : Plain). x.texts) c.left.ensures.same ∙ c.block.ensures.texts) (ap (λ (x : Plain). x.lists) c.left.ensures.same ∙ c.block.ensures.lists) in
+    look-moves c.args.clauses.now.clauses c.args.clauses.now.vars c.args.self.now (record c.block.new.self { watches = c.left.new.self }) c.args.trail.now c.args.head c.args.code c.args.place c.args.slot c.in-Some.other c.in-Some-left.next h c.requires.long c.in-Some.ensures b es
+    (subst (λ t. IsOther c.args.trail.now.lits t (lit_of c.in-Some.other) (lit_of c.in-Some-left.next)) (ap (λ ts. text_at ts (clause_in c.block.new.self.watches.starts c.args.slot.target)) c.block.ensures.texts ∙ ap (λ ss. text_at c.args.self.now.watches.texts (clause_in ss c.args.slot.target)) c.block.ensures.starts) c.in-Some-left.ensures.left)
 
 pub returns-clause-extends : goal.returns-clause-extends
-returns-clause-extends c = extends-refl c.args.clauses.now.clauses c.args.trail.now
+returns-clause-extends c =
+    extends-refl c.args.clauses.now.clauses c.args.trail.now
+
+pub returns-clause-fewer : goal.returns-clause-fewer
+returns-clause-fewer c =
+    let h : Look c.args.clauses.now.clauses c.args.clauses.now.vars c.args.self.now c.args.trail.now c.args.head c.args.code c.args.place c.args.slot = record { turning = c.requires.turning; listed = c.requires.place; is = c.requires.slot; equal = c.requires.vars; within = c.len-within.ensures.within; pairs = sym c.clauses-count.ensures.pairs ∙ c.clauses-count.ensures.starts; texts = sym c.clauses-count.ensures.texts ∙ c.clauses-count.ensures.starts } in
+    let es : c.left.new.self.starts ≡ c.args.self.now.watches.starts = ap (λ (x : Plain). x.starts) c.left.ensures.same ∙ c.block.ensures.starts in
+    let b : Blocked c.args.clauses.now.clauses c.args.self.now (record c.block.new.self { watches = c.left.new.self }) (lit_of c.args.code) c.args.place (clause_in c.args.self.now.watches.starts c.args.slot.target) (plain_of c.args.self.now.watches.starts (record { blocker = c.in-Some.other; target = c.args.slot.target })) =
+    look-blocked c.args.clauses.now.clauses c.args.clauses.now.vars c.args.self.now (record c.block.new.self { watches = c.left.new.self }) c.args.trail.now c.args.head c.args.code c.args.place c.args.slot c.in-Some.other c.len-path.ensures.path h c.requires.long c.in-Some.ensures c.block.ensures.ends (ap (λ (x : Plain). x.pairs) c.left.ensures.same ∙ c.block.ensures.pairs) (ap (λ (x : Plain). x.texts) c.left.ensures.same ∙ c.block.ensures.texts) (ap (λ (x : Plain). x.lists) c.left.ensures.same ∙ c.block.ensures.lists) in
+    fewer-blocked c.args.clauses.now.clauses c.args.self.now (record c.block.new.self { watches = c.left.new.self }) c.go_on.new.self.watches.lists (lit_of c.args.code) c.args.place (clause_in c.args.self.now.watches.starts c.args.slot.target) (plain_of c.args.self.now.watches.starts (record { blocker = c.in-Some.other; target = c.args.slot.target })) c.go_on.result b c.go_on.ensures.fewer

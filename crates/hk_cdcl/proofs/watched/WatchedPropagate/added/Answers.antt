@@ -14,7 +14,7 @@ returns-clause-grown c =
     whenever c.make_room.result ((old : List (List ℤ)) (seen : List ℤ) → Fits c.args.self.now old seen → Grown old c.args.clauses.now.clauses → Fits c.make_room.new.self c.args.clauses.now.clauses seen)
     (λ old seen f g. fits-grown c.args.self.now c.make_room.new.self old c.args.clauses.now.clauses seen
     (record {
-      more = let a : length c.args.self.now.watches ≤ length c.widen.new.self = c.widen.ensures.more in let b : length c.widen.new.self ≤ length c.make_room.new.self.watches = c.make_room.ensures.watches.more in omega (arith, a, b);
-      same = λ l. c.make_room.ensures.watches.same l ∙ c.widen.ensures.same l;
+      more = let a : length c.args.self.now.watches.lists ≤ length c.widen.new.self.lists = c.widen.ensures.lists.more in let b : length c.widen.new.self.lists ≤ length c.make_room.new.self.watches.lists = c.make_room.ensures.watches.more in omega (arith, a, b);
+      same = λ l. c.make_room.ensures.watches.same l ∙ c.widen.ensures.lists.same l;
     })
-    (c.make_room.ensures.pairs ∙ c.reserve.ensures.items) (c.make_room.ensures.ends ∙ c.reserve-2.ensures.items) g f)
+    (c.make_room.ensures.pairs ∙ c.widen.ensures.pairs) (c.make_room.ensures.texts ∙ c.widen.ensures.texts) (c.make_room.ensures.ends ∙ c.reserve.ensures.items) g f)

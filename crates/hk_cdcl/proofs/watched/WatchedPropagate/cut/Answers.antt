@@ -9,4 +9,4 @@ returns c = λ clauses seen f.
     let low : AllPairs (λ d e. d < e) c.args.self.now.ends.items → All (λ e. e ≤ c.args.length) (take c.ends_until-count.result c.args.self.now.ends.items) =
     subst (λ (es : List ℕ). AllPairs (λ d e. d < e) es → All (λ e. e ≤ c.args.length) (take c.ends_until-count.result es)) c.as_slice.ensures.value c.ends_until-count.ensures in
     let u : Watched = record c.args.self.now { ends = c.truncate.new.self } in
-    fits-cut c.args.self.now u clauses seen c.args.length c.ends_until-count.result refl refl c.truncate.ensures.items low f
+    fits-cut c.args.self.now u clauses seen c.args.length c.ends_until-count.result refl c.truncate.ensures.items low f

@@ -1,5 +1,0 @@
-use Rattle.std.proofs.Common.{◌≡◌, ◌<◌, ℕ, [], get_or}
-use Rattle.hk_cdcl.proofs.watches.Watches.clear.Given as goal
-
-abbrev pub invariant-loop-list : goal.invariant-loop-list
-invariant-loop-list l = (n : ℕ) → n < l.list-index → get_or l.list-items n [] ≡ []

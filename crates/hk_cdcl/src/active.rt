@@ -1,0 +1,145 @@
+//! Which learned clauses stay when a segment of the search ends: the shortest ones, and those that hints of late rows name
+//! most, for their length.
+//!
+//! Nothing rests on this choice but speed, so no contract speaks of it.
+
+use crate::search::Search;
+use hk_lrat::LratRow;
+use std::alloc::{AllocError, Global};
+
+/// What a row's own clause and each of its hints counts.
+const USE: u64 = 1 << 20;
+
+/// The most literals of a clause that always stays.
+const SHORT: usize = 2;
+
+/// A learned clause that stays.
+#[derive(Clone, Copy)]
+pub struct Kept {
+    /// Its row in the log, counted from 0.
+    pub row: usize,
+    /// How much it was used of late.
+    activity: u64,
+}
+
+/// Adds to the count at a place.
+fn count(counts: &mut [u64], place: usize, by: u64) {
+    if place < counts.len() {
+        counts[place] = counts[place].saturating_add(by);
+    }
+}
+
+/// Counts the clauses that the row names.
+fn count_hints(counts: &mut [u64], row: &LratRow, by: u64) {
+    if let LratRow::Add { hints, .. } = row {
+        for hint in hints.as_slice() {
+            count(counts, hint.wrapping_sub(1) as usize, by);
+        }
+    }
+}
+
+/// For each clause of the segment's list how much it was used of late: half of what was known before it, and what its rows
+/// tell. A row at the end weighs twice as much as one at the front.
+fn activities(
+    alloc: Global,
+    active: &Search,
+    given: usize,
+    kept: &[Kept],
+) -> Result<Vec<u64>, AllocError> {
+    let mut counts = vec![in alloc; 0; active.clauses.len()]?;
+    let rows = active.log.as_slice();
+    count_kept(counts.as_mut_slice(), given, kept);
+    let first = active.clauses.len().saturating_sub(rows.len());
+    count_rows(counts.as_mut_slice(), first, rows);
+    Ok(counts)
+}
+
+/// Counts half of what was known of the clauses from a place on.
+fn count_kept(counts: &mut [u64], first: usize, kept: &[Kept]) {
+    for i in 0..kept.len() {
+        count(counts, first.saturating_add(i), kept[i].activity / 2);
+    }
+}
+
+/// Counts the clauses that the rows name, and the rows' own clauses, which stand from a place on.
+fn count_rows(counts: &mut [u64], first: usize, rows: &[LratRow]) {
+    let step = USE / (rows.len() as u64).saturating_add(1);
+    let mut by = USE;
+    for i in 0..rows.len() {
+        count_hints(counts, &rows[i], by);
+        count(counts, first.saturating_add(i), by);
+        by = by.saturating_add(step);
+    }
+}
+
+/// The value at a place, or 0.
+fn value_at(values: &[u64], place: usize) -> u64 {
+    if place < values.len() {
+        values[place]
+    } else {
+        0
+    }
+}
+
+/// How late a clause goes: the smaller, the later. Short ones stay.
+fn rank(len: usize, activity: u64) -> u64 {
+    if len <= SHORT {
+        return 0;
+    }
+    u64::MAX - activity / len as u64
+}
+
+/// The places of the learned clauses that stay, as many as there is room for.
+fn best(
+    alloc: Global,
+    active: &Search,
+    activities: &[u64],
+    given: usize,
+    room: usize,
+) -> Result<Vec<usize>, AllocError> {
+    let mut ranks = Vec::new(alloc);
+    for place in given..active.clauses.len() {
+        let len = active.clauses.clause(place).len();
+        ranks.push((rank(len, value_at(activities, place)), place))?;
+    }
+    ranks.sort_unstable();
+    ranks.truncate(room);
+    places_of(alloc, ranks.as_slice())
+}
+
+/// The places, in order.
+fn places_of(alloc: Global, ranks: &[(u64, usize)]) -> Result<Vec<usize>, AllocError> {
+    let mut places = Vec::new(alloc);
+    for ranked in ranks {
+        places.push(ranked.1)?;
+    }
+    places.sort_unstable();
+    Ok(places)
+}
+
+/// The row of the clause at a place, whose name is its id in the whole list.
+fn row_at(names: &[u64], given: usize, place: usize) -> usize {
+    let name = value_at(names, place.saturating_add(1)) as usize;
+    name.saturating_sub(given).saturating_sub(1)
+}
+
+/// The learned clauses of the segment that stay, as many as there is room for, in the order of their rows.
+pub fn choose(
+    alloc: Global,
+    active: &Search,
+    names: &[u64],
+    given: usize,
+    kept: &[Kept],
+    room: usize,
+) -> Result<Vec<Kept>, AllocError> {
+    let activities = activities(alloc, active, given, kept)?;
+    let places = best(alloc, active, activities.as_slice(), given, room)?;
+    let mut stay = Vec::new(alloc);
+    for place in places.as_slice() {
+        stay.push(Kept {
+            row: row_at(names, given, *place),
+            activity: value_at(activities.as_slice(), *place),
+        })?;
+    }
+    Ok(stay)
+}
