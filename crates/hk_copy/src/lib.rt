@@ -12,6 +12,3 @@ mod walk;
 
 pub use stand::Stand;
 pub use walk::copy;
-
-#[cfg(test)]
-mod tests;

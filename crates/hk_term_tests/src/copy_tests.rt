@@ -8,11 +8,10 @@ ghost use Rattle.hk_term.specs.Shape.{IsWidth, width};
 ghost use Rattle.hk_term.specs.declared.bounds.Bound.{Bound};
 ghost use Rattle.hk_term.specs.declared.node.Node.TheVariants.{ForAll};
 ghost use Rattle.hk_term.specs.declared.node.Node.{Node};
-ghost use Rattle.hk_copy.specs.Stands.{IsApart, HasWidth};
+ghost use Rattle.hk_copy.specs.Stands.{is_bound, IsApart, HasWidth};
 ghost use Rattle.hk_copy.specs.Copies.{AreReady};
 
-use crate::stand::is_bound;
-use crate::{Stand, copy};
+use hk_copy::{Stand, copy};
 use hk_term::{Bound, BoundList, Node, TermId, TermKind, Terms, Valuation, ValueRoom};
 use std::alloc::{AllocError, Global};
 
@@ -184,6 +183,16 @@ fn build(alloc: Global, t: &mut Terms, goal: Goal) -> Result<TermId, AllocError>
         Goal::Shadowed => shadowed(alloc, t),
         Goal::ShadowedInside => twice(alloc, t, (1, 3), (3, 2)),
         Goal::ShadowedOutside => twice(alloc, t, (3, 3), (1, 2)),
+    }
+}
+
+// Whether one of these variables has the id.
+fn is_bound(bound: &[Bound], id: u32) -> bool
+    ensures { result ≡ is_bound bound.now id }
+{
+    match bound {
+        [] => false,
+        [first, rest @ ..] => id == first.id || is_bound(rest, id),
     }
 }
 

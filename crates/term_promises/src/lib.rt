@@ -1,0 +1,9 @@
+//! What constructors of terms and circuits promise, once more: for wrong bodies of public calls.
+//!
+//! Stands above simplifying constructors and circuits. Each function has the parameters, the conditions and the promise of the call
+//! that it hands on to, so a promise that grows weaker below is refused here, and a wrong body in its place is refused by the promise
+//! itself, with nothing private between them.
+#![tactic(auto)]
+
+pub mod circuits;
+pub mod terms;
