@@ -16,7 +16,7 @@ use ir_whole::TypeNumbers;
 use std::alloc::{AllocError, Global};
 
 /// What was found of some instructions.
-#[derive(Clone, Copy, Debug, PartialEq, Eq)]
+#[derive(Clone, Copy)]
 pub struct Found {
     /// Each name that they use is known.
     pub known: bool,
@@ -127,34 +127,21 @@ pub fn look(alloc: Global, text: &[u8]) -> Result<Found, KernelStop>
     }
 }
 
-/// Whether the instructions take their operands and types that the function `f` with these parameters begins with, behind these items.
-/// Each name that they use has to be known.
-pub fn fits(
+/// The text of a function `f` with these parameters that begins with these instructions, behind these items.
+pub fn function_text(
     alloc: Global,
     items: &[u8],
     parameters: &[u8],
     instrs: &[u8],
-) -> Result<bool, KernelStop> {
+) -> Result<Vec<u8>, AllocError> {
     let mut text = Vec::new(alloc);
-    for part in [
-        items,
-        b"\ndefine void @f(",
-        parameters,
-        b") {\n",
-        instrs,
-        b"\nret void\n}\n",
-    ] {
-        text.extend_from_slice(part)?;
-    }
-    if text.len() >= 2_147_483_648 {
-        return Err(KernelStop::Memory);
-    }
-    let found = look(alloc, &text)?;
-    if found.known {
-        Ok(found.fits)
-    } else {
-        Err(KernelStop::Memory)
-    }
+    text.extend_from_slice(items)?;
+    text.extend_from_slice(b"\ndefine void @f(")?;
+    text.extend_from_slice(parameters)?;
+    text.extend_from_slice(b") {\n")?;
+    text.extend_from_slice(instrs)?;
+    text.extend_from_slice(b"\nret void\n}\n")?;
+    Ok(text)
 }
 
 /// Whether the head of the function `f` of a text fits.
