@@ -1,7 +1,9 @@
-//! Runs of the function `f` of a text.
+//! Runs of the function `f` of a text, and how a run ends.
 
 ghost use Rattle.std.specs.Prelude.{◌<◌, ◌^◌, length};
 
+use crate::row::{numbers_of, text_of};
+use crate::values::value_text;
 use hk_seq::Seq;
 use ir_ast::Name;
 use ir_code::Code;
@@ -9,75 +11,35 @@ use ir_kernel::Kernel;
 use ir_layout::KMemory;
 use ir_machine::{End, Frame, Frames, Held, Machine, run};
 use ir_read::read_module;
-use ir_value::{StuckReason, Value};
+use ir_value::Value;
 use std::alloc::{AllocError, Global};
 
-/// What a run comes to: what it returns, or the number of the reason why it is stuck, with its line.
-#[derive(Clone, Copy, Debug, PartialEq, Eq)]
-pub enum Told {
-    /// A number, and byte 0 of object 0.
-    Gives(u64, u8),
-    /// No number, and byte 0 of object 0.
-    Returns(u8),
-    Stuck(u32, u32),
-    Refused,
-    Lost,
-}
-
-fn number(reason: StuckReason) -> u32 {
-    match reason {
-        StuckReason::U1 => 1,
-        StuckReason::U2 => 2,
-        StuckReason::U3 => 3,
-        StuckReason::U4 => 4,
-        StuckReason::U5 => 5,
-        StuckReason::U6 => 6,
-        StuckReason::U7 => 7,
-        StuckReason::U8 => 8,
-        _ => later_number(reason),
-    }
-}
-
-fn later_number(reason: StuckReason) -> u32 {
-    match reason {
-        StuckReason::U9 => 9,
-        StuckReason::U10 => 10,
-        StuckReason::U11 => 11,
-        StuckReason::U12 => 12,
-        StuckReason::U13 => 13,
-        StuckReason::U14 => 14,
-        StuckReason::U15 => 15,
-        StuckReason::U16 => 16,
-        StuckReason::U17 => 17,
-        _ => 0,
-    }
-}
-
-fn first_byte(memory: &KMemory) -> u8 {
+/// A byte of object 0, and 0 where there is none.
+fn byte_at(memory: &KMemory, place: usize) -> u8 {
     if 0 < memory.objects() {
-        match memory.bytes(0) {
-            [first, ..] => *first,
-            _ => 0,
-        }
+        memory.bytes(0).get(place).copied().unwrap_or(0)
     } else {
         0
     }
 }
 
-fn returned(value: Option<Value>, memory: &KMemory) -> Told {
+fn returned(alloc: Global, value: Option<Value>, byte: u8) -> Result<String, AllocError> {
     match value {
-        Some(Value::Number(n)) => Told::Gives(n, first_byte(memory)),
-        Some(_) => Told::Lost,
-        None => Told::Returns(first_byte(memory)),
+        Some(value) => {
+            let is = value_text(alloc, value)?;
+            format!(in alloc; "{is}, byte {byte}")
+        }
+        None => format!(in alloc; "nothing, byte {byte}"),
     }
 }
 
-fn outcome(end: &End) -> Told {
+/// How a run ends: with what it returns and a byte of object 0, or stuck for a reason at a line, or lost, or cut off.
+pub fn end_text(alloc: Global, end: &End, place: usize) -> Result<String, AllocError> {
     match end {
-        End::Returned(value, memory) => returned(*value, memory),
-        End::Stuck(reason, line) => Told::Stuck(number(*reason), *line),
-        End::Lost => Told::Lost,
-        End::Unfinished => Told::Lost,
+        End::Returned(value, memory) => returned(alloc, *value, byte_at(memory, place)),
+        End::Stuck(reason, line) => format!(in alloc; "stuck {reason:?} at line {line}"),
+        End::Lost => String::from_str(alloc, "lost"),
+        End::Unfinished => String::from_str(alloc, "unfinished"),
     }
 }
 
@@ -121,36 +83,56 @@ fn run_at(
     kernel: &Kernel,
     function: u32,
     arguments: &[u64],
-) -> Result<Told, AllocError> {
+) -> Result<String, AllocError> {
     match kernel.program().functions.as_slice().get(function as usize) {
         Some(code) => {
             let registers = registers_of(alloc, code, arguments)?;
             let machine = started(alloc, kernel, function, registers)?;
             let end = run(alloc, kernel.program(), 100_000, machine)?;
-            Ok(outcome(&end))
+            end_text(alloc, &end, 0)
         }
-        None => Ok(Told::Lost),
+        None => String::from_str(alloc, "lost"),
     }
 }
 
 /// The run of the function `f` of a kernel.
-fn run_f(alloc: Global, kernel: &Kernel, arguments: &[u64]) -> Result<Told, AllocError> {
+fn run_f(alloc: Global, kernel: &Kernel, arguments: &[u64]) -> Result<String, AllocError> {
     let name = Name::copy_of(alloc, b"f")?;
     match kernel.checked().find(&name) {
         Some(place) => run_at(alloc, kernel, place, arguments),
-        None => Ok(Told::Refused),
+        None => String::from_str(alloc, "refused"),
     }
 }
 
 /// The run of the function `f` of a text from the initial memory.
-pub fn run_text(alloc: Global, text: &[u8], arguments: &[u64]) -> Result<Told, AllocError>
+fn run_text(alloc: Global, text: &[u8], arguments: &[u64]) -> Result<String, AllocError>
     requires { length text.now < 2 ^ 31 }
 {
-    match read_module(alloc, text) {
-        Ok(kernel) => match Kernel::new(alloc, kernel) {
-            Ok(kernel) => run_f(alloc, &kernel, arguments),
-            Err(_) => Ok(Told::Refused),
+    let Ok(module) = read_module(alloc, text) else {
+        return String::from_str(alloc, "refused");
+    };
+    match Kernel::new(alloc, module) {
+        Ok(kernel) => run_f(alloc, &kernel, arguments),
+        Err(_) => String::from_str(alloc, "refused"),
+    }
+}
+
+/// The run of a text that is short enough to be read.
+fn run_any(alloc: Global, text: &[u8], arguments: &[u64]) -> Result<Option<String>, AllocError> {
+    if text.len() < 2_147_483_648 {
+        Ok(Some(run_text(alloc, text, arguments)?))
+    } else {
+        Ok(None)
+    }
+}
+
+/// The answer to a row over runs of texts.
+pub fn run_answer(alloc: Global, fields: &[&str]) -> Result<Option<String>, AllocError> {
+    match fields {
+        ["run", text, arguments] => match numbers_of(alloc, arguments)? {
+            Some(arguments) => run_any(alloc, &text_of(alloc, text)?, &arguments),
+            None => Ok(None),
         },
-        Err(_) => Ok(Told::Refused),
+        _ => Ok(None),
     }
 }
