@@ -6,6 +6,7 @@
 #![tactic(auto)]
 
 pub mod elaborations;
+pub mod names;
 pub mod rows;
 pub mod takes;
 pub mod texts;
