@@ -65,14 +65,23 @@ fn root(tree: &RawExpr) -> &'static str {
     }
 }
 
-/// The outermost node and the depth.
-fn tree_told(alloc: Global, tree: &Bounded<RawExpr>) -> Result<String, AllocError> {
+/// The outermost node and the depth, and nothing where it is too deep.
+fn seen(tree: &Bounded<RawExpr>) -> Option<(&'static str, u32)> {
     match tree {
-        Bounded::Within(tree, depth) => {
-            let node = root(tree);
-            format!(in alloc; "{node}, depth {depth}")
-        }
-        Bounded::TooDeep => String::from_str(alloc, "too deep"),
+        Bounded::Within(tree, depth) => Some((root(tree), *depth)),
+        Bounded::TooDeep => None,
+    }
+}
+
+/// A node with its depth, and how many tokens stand behind it.
+fn node_told(
+    alloc: Global,
+    node: Option<(&'static str, u32)>,
+    left: usize,
+) -> Result<String, AllocError> {
+    match node {
+        Some((node, depth)) => format!(in alloc; "{node}, depth {depth}, {left} left"),
+        None => format!(in alloc; "too deep, {left} left"),
     }
 }
 
@@ -81,9 +90,9 @@ fn front_told<'t>(alloc: Global, tokens: &'t [Token<'t>]) -> Result<String, Allo
     let nest = tokens.len().saturating_add(1);
     match expr_at(alloc, nest, tokens) {
         Ok((tree, rest)) => {
-            let tree = tree_told(alloc, &tree)?;
-            let left = rest.len();
-            format!(in alloc; "{tree}, {left} left")
+            let node = seen(&tree);
+            drop(tree);
+            node_told(alloc, node, rest.len())
         }
         Err(PartStop::NotSpelled) => String::from_str(alloc, "not spelled"),
         Err(PartStop::Memory) => String::from_str(alloc, "memory"),

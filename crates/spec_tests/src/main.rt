@@ -44,21 +44,29 @@ fn told_of(alloc: Global, call: &str, text: &[u8]) -> Result<Option<String>, All
     Ok(Some(told))
 }
 
-/// What a row of these two fields says, and nothing where there is no such row.
-fn answer(alloc: Global, call: &str, field: &str) -> Result<Option<String>, AllocError> {
-    let (call, text) = if call == "return" {
-        (
-            "spec",
-            text_of(alloc, "def inv_a(kernel):\\n    return ", field, "\\n")?,
-        )
-    } else {
-        (call, text_of(alloc, "", field, "")?)
-    };
+/// What a call says of a field between two texts, and nothing where there is no such call.
+fn told_between(
+    alloc: Global,
+    call: &str,
+    front: &str,
+    field: &str,
+    back: &str,
+) -> Result<Option<String>, AllocError> {
+    let text = text_of(alloc, front, field, back)?;
     if text.len() < 65536 {
         told_of(alloc, call, &text)
     } else {
         Ok(None)
     }
+}
+
+/// What a row of these two fields says, and nothing where there is no such row.
+fn answer(alloc: Global, call: &str, field: &str) -> Result<Option<String>, AllocError> {
+    if call == "return" {
+        let front = "def inv_a(kernel):\\n    return ";
+        return told_between(alloc, "spec", front, field, "\\n");
+    }
+    told_between(alloc, call, "", field, "")
 }
 
 /// A line with its answer.
