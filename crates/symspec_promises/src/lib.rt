@@ -1,0 +1,8 @@
+//! What the terms of specifications promise, said once more above them.
+//!
+//! Stands on specifications as terms. Each function has the parameters, the conditions and the clause of one public call below, and only
+//! calls it: whoever weakens that clause is refused here, and a wrong body here has that clause alone against it.
+#![tactic(auto)]
+
+pub mod formulas;
+pub mod steps;
