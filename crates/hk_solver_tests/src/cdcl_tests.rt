@@ -448,7 +448,54 @@ fn checked(alloc: Global, list: &ClauseList, end: &SolveEnd) -> Result<String, F
     }
 }
 
-/// What a solver comes to over the first clauses of a clause file, then over some more with the budget, and then over all.
+/// One round: the lists grow up to a place of another, and the answer within the budget is told.
+fn go_on(
+    alloc: Global,
+    solver: &mut Solver,
+    list: &mut ClauseList,
+    whole: &ClauseList,
+    to: usize,
+    budget: u64,
+) -> Result<String, Fail>
+    requires budget { 1 ≤ budget }
+    requires held { solver.old.list ≡ list.old }
+    requires vars { list.old.vars ≡ whole.now.vars }
+    requires inside { to ≤ length whole.now.clauses }
+    ensures held { OnOk result (solver.new.list ≡ list.new) }
+    ensures vars { OnOk result (list.new.vars ≡ whole.now.vars) }
+{
+    let from = list.len();
+    grow_to(solver, list, whole, from, to)?;
+    let end = solver.solve(alloc, budget)?;
+    let told = checked(alloc, list, &end)?;
+    Ok(told)
+}
+
+/// What a solver comes to over the first clauses of a list, then over some more, both with the budget, and then over all.
+fn in_three(
+    alloc: Global,
+    solver: &mut Solver,
+    list: &mut ClauseList,
+    whole: &ClauseList,
+    parts: (usize, usize),
+    budget: u64,
+) -> Result<String, Fail>
+    requires budget { 1 ≤ budget }
+    requires held { solver.old.list ≡ list.old }
+    requires vars { list.old.vars ≡ whole.now.vars }
+    requires first { parts.0 ≤ length whole.now.clauses }
+    requires second { parts.1 ≤ length whole.now.clauses }
+{
+    let mut text = go_on(alloc, solver, list, whole, parts.0, budget)?;
+    let two = go_on(alloc, solver, list, whole, parts.1, budget)?;
+    text.push_str(two.as_str())?;
+    let all = whole.len();
+    let three = go_on(alloc, solver, list, whole, all, 1_000_000)?;
+    text.push_str(three.as_str())?;
+    Ok(text)
+}
+
+/// The same of a clause file, with a new solver.
 fn rounds(
     alloc: Global,
     file: &str,
@@ -466,16 +513,14 @@ fn rounds(
     }
     let mut list = ClauseList::new(alloc, whole.vars());
     let mut solver = Solver::new(alloc, &list)?;
-    grow_to(&mut solver, &mut list, &whole, 0, first)?;
-    let one = solver.solve(alloc, budget)?;
-    let mut text = checked(alloc, &list, &one)?;
-    grow_to(&mut solver, &mut list, &whole, first, second)?;
-    let two = solver.solve(alloc, budget)?;
-    text.push_str(checked(alloc, &list, &two)?.as_str())?;
-    grow_to(&mut solver, &mut list, &whole, second, whole.len())?;
-    let three = solver.finish(alloc, 1_000_000)?;
-    text.push_str(checked(alloc, &list, &three)?.as_str())?;
-    Ok(text)
+    in_three(
+        alloc,
+        &mut solver,
+        &mut list,
+        &whole,
+        (first, second),
+        budget,
+    )
 }
 
 #[test]
