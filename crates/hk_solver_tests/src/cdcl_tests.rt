@@ -118,7 +118,6 @@ fn lists_that_take_several_segments_come_to_their_answers(rt: HostRuntime) -> Re
     let table = [
         (EIGHT_IN_SEVEN, 100_000, "unsat"),
         (EIGHT_IN_SEVEN, 1_500, "spent 1500"),
-        (THREES, 1_184, "spent 1184"),
         (THREES, 100_000, "sat"),
     ];
     for (file, budget, expected) in table {
