@@ -4,7 +4,7 @@ use Rattle.std.proofs.lemmas.Bool.{cases_lt}
 use Rattle.std.proofs.lemmas.List.Elements.{All-contains}
 use Rattle.hk_graph.specs.Walks.{HasEdge, targets_of}
 use Rattle.hk_flow.proofs.Passing.{edge_within}
-use Rattle.ir_check_tests.proofs.flow_tests.is_within.Goals as goal
+use Rattle.ir_check_tests.proofs.flow.is_within.Goals as goal
 
 one_more : (graph : List (List ℕ)) (node n : ℕ) (targets : List ℕ) → ((a b : ℕ) → a < node → HasEdge graph a b → b < length graph) → All (λ t. t < n) targets
     → targets ≡ targets_of graph node → n ≡ length graph → (a b : ℕ) → a < node + 1 → HasEdge graph a b → b < length graph
