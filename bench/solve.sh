@@ -2,7 +2,8 @@
 # Measures the clause-learning solver beside `minisat -no-pre` and `cadical --plain`, where they are installed: random lists with
 # three literals a clause (4.26 clauses a variable), pigeonholes, equivalence of multipliers and of adders, a list of over
 # 100,000 clauses, and each clause file of a folder that is given. Prints for each list the answer, the conflicts and the
-# seconds of user time of each program, and the peak of memory of this one; then the sums.
+# seconds of user time of each program, and the peak of memory of this one, less what it has before it reads, with the
+# bytes for each given and learned literal, 8 bytes for each hint taken off, where the answer has a log; then the sums.
 # The program that reads a clause file and solves it is built in a folder of its own, over the crates as they stand.
 set -eu
 root=$(cd "$(dirname "$0")/.." && pwd)
@@ -27,7 +28,7 @@ cat >"$work/crates/solve_list/src/main.rt" <<'MAIN'
 //! Reads a clause file, solves it and prints the answer.
 #![tactic(auto)]
 
-use hk_cdcl::{SolveEnd, Solver};
+use hk_cdcl::{SolveEnd, solve};
 use hk_cnf::{ClauseList, read_dimacs};
 use hk_lrat::{LratLog, LratRow};
 use std::alloc::{AllocError, Global};
@@ -48,20 +49,21 @@ fn sizes(alloc: Global, log: &LratLog) -> Result<String, AllocError> {
 
 /// What the list comes to, in words.
 fn answer(alloc: Global, list: &ClauseList) -> Result<String, AllocError> {
-    let mut solver = Solver::new(alloc, list)?;
-    match solver.solve(alloc, 100_000_000)? {
+    match solve(alloc, list, 100_000_000)? {
         SolveEnd::Sat(_) => String::from_str(alloc, "sat 0 0 0"),
         SolveEnd::Unsat(log) => format!(in alloc; "unsat {}", sizes(alloc, &log)?),
         SolveEnd::Spent(log) => format!(in alloc; "spent {}", sizes(alloc, &log)?),
     }
 }
 
-/// The same of a clause file.
-fn answer_to(alloc: Global, file: &[u8]) -> Result<String, AllocError> {
+/// The same of a clause file, which is let go once it is read.
+fn answer_to(alloc: Global, file: Vec<u8>) -> Result<String, AllocError> {
     if file.len() >= 1_000_000_000 {
         return String::from_str(alloc, "long 0 0 0");
     }
-    match read_dimacs(alloc, file) {
+    let read = read_dimacs(alloc, file.as_slice());
+    drop(file);
+    match read {
         Ok(list) => answer(alloc, &list),
         Err(_) => String::from_str(alloc, "no-list 0 0 0"),
     }
@@ -70,7 +72,7 @@ fn answer_to(alloc: Global, file: &[u8]) -> Result<String, AllocError> {
 fn main(rt: HostRuntime) -> io::Result<()> {
     let mut file = Vec::new(rt.alloc());
     rt.reader().read_to_end(&mut file)?;
-    let text = answer_to(rt.alloc(), file.as_slice())?;
+    let text = answer_to(rt.alloc(), file)?;
     println!(rt; "{text}")?;
     Ok(())
 }
@@ -185,6 +187,13 @@ def peak(pid):
         return 0
 
 
+def started(command):
+    """What the program takes before it reads its list, in KiB."""
+    with subprocess.Popen(command, stdin=subprocess.PIPE, stdout=subprocess.DEVNULL) as child:
+        time.sleep(0.2)
+        return peak(child.pid)
+
+
 def timed(command, path):
     """Output, seconds of user time, and the peak of memory in KiB; None where it takes over two minutes."""
     most = 0
@@ -231,6 +240,7 @@ if os.environ.get('WITHOUT_AIM'):
     paths += free
 
 own, mini = 0.0, 0.0
+least = started([program])
 for path in paths:
     name = os.path.basename(path)
     literals = sum(len(line.split()) - 1 for line in open(path) if line[0] not in 'cp')
@@ -242,7 +252,9 @@ for path in paths:
         print(f'{name}: over 120 s; minisat {show(minisat)}, cadical {show(cadical)}', flush=True)
         continue
     word, rows, learned, hints = done[0].split()
-    print(f'{name}: {word}, {done[1]:.2f} s, {rows} rows with {learned} literals and {hints} hints, {done[2] / 1024:.0f} MiB for {literals} literals; minisat {show(minisat)}, cadical {show(cadical)}', flush=True)
+    taken = 1024 * max(done[2] - least, 0)
+    each = f', {(taken - 8 * int(hints)) / (literals + int(learned)):.0f} bytes a literal without hints' if int(rows) else ''
+    print(f'{name}: {word}, {done[1]:.2f} s, {rows} rows with {learned} literals and {hints} hints, {taken / 2**20:.1f} MiB for {literals} given literals{each}; minisat {show(minisat)}, cadical {show(cadical)}', flush=True)
     if minisat:
         own, mini = own + done[1], mini + minisat[0]
 print(f'sum: {own:.2f} s; minisat {mini:.2f} s')

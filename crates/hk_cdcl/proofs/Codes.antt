@@ -1,5 +1,5 @@
 -- Literals by their codes.
-use Rattle.std.proofs.Common.{◌≡◌, ◌≢◌, ℕ, ◌+◌, ◌-◌, ◌*◌, ◌<◌, ◌≤◌, Bool, true, false, List, [], ◌∷◌, map, ℤ, pos, neg_ℤ, refl, sym, ◌∙◌, ap, subst, arith}
+use Rattle.std.proofs.Common.{◌≡◌, ◌≢◌, ℕ, ◌+◌, ◌-◌, ◌*◌, ◌<◌, Bool, true, false, List, [], ◌∷◌, map, ℤ, pos, neg_ℤ, refl, sym, ◌∙◌, ap, subst, arith}
 use Rattle.std.specs.Prelude.{suc, negsuc, ◌/◌, ◌%◌, nat_eq, if◌then◌else◌}
 use Rattle.std.proofs.lemmas.Bool.{eqb-true, eqb-false, eq-eqb, ne_eqb}
 use Rattle.std.specs.List.{All}

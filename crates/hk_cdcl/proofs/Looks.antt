@@ -1,5 +1,5 @@
 -- A look at a watch, as it is kept.
-use Rattle.std.proofs.Common.{◌≡◌, ◌≢◌, ◌⊎◌, ℕ, ◌+◌, ◌*◌, ◌<◌, ◌≤◌, ◌^◌, Bool, true, false, List, [], length, set, ℤ, pos, neg_ℤ, refl, sym, ◌∙◌, ap, subst, arith}
+use Rattle.std.proofs.Common.{◌≡◌, ◌≢◌, ◌⊎◌, ℕ, ◌+◌, ◌<◌, ◌^◌, Bool, true, false, List, [], length, set, ℤ, pos, neg_ℤ, sym, ◌∙◌, ap, subst, arith}
 use Rattle.std.specs.Prelude.{nat_le}
 use Rattle.std.proofs.Math.ListN.{length-set}
 use Rattle.std.specs.List.{All}
@@ -10,12 +10,11 @@ use Rattle.hk_cdcl.specs.declared.watched.Watched.{Watched}
 use Rattle.hk_cdcl.specs.Looking.{IsOther, IsOtherOf}
 use Rattle.hk_cdcl.specs.Path.{Path, IsPath}
 use Rattle.hk_cdcl.specs.Records.{lit_of, pair_at, text_at}
-use Rattle.hk_cdcl.specs.Watches.{Watch, Plain, clause_in, plain_of, watches_of, watch_at}
+use Rattle.hk_cdcl.specs.Watches.{Watch, clause_in, plain_of, watches_of, watch_at}
 use Rattle.hk_cdcl.specs.Watching.{clause_no, Moves, Propagating, Turning}
 use Rattle.hk_cdcl.proofs.Attaching.{text-is}
 use Rattle.hk_cdcl.proofs.Blocking.{written, Blocked, blocked-of, other-read-member, moves-blocked}
-use Rattle.hk_cdcl.proofs.Moving.{read-within, read-stays, read-others, read-inside, read-inside-all, other-within, head-within, code-inside}
-use Rattle.hk_cdcl.proofs.Codes.{code-lit}
+use Rattle.hk_cdcl.proofs.Moving.{read-within, read-stays, read-others, read-inside, read-inside-all, other-within}
 
 pub record Look (clauses : List (List ℤ)) (vars : ℕ) (w : Watched) (p : Path) (head code place : ℕ) (slot : Slot) : Type 0 where
   pub turning : Turning clauses w p head (lit_of code) place

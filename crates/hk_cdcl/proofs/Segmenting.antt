@@ -16,7 +16,7 @@ use Rattle.hk_cdcl.specs.declared.segments.Answer.{Answer}
 use Rattle.hk_cdcl.specs.declared.segments.Answer.TheVariants.{Sat, Unsat}
 use Rattle.hk_cdcl.specs.Analysis.{Derives}
 use Rattle.hk_cdcl.specs.Fresh.{additions}
-use Rattle.hk_cdcl.specs.Forgetting.{IsDerived, AreDerived, Learns, IsBegun, IsSearched, Says, Tells, Answers, found_of, Called}
+use Rattle.hk_cdcl.specs.Forgetting.{IsDerived, AreDerived, Learns, IsBegun, IsSearched, Says, Tells, Answers, answer_of, found_of, Called}
 use Rattle.hk_cdcl.specs.Names.{named, AreNames, ids_of, front_of, IsPart}
 use Rattle.hk_cdcl.specs.Propagation.{Grown}
 use Rattle.hk_cdcl.specs.Searching.{IsLogged, with_clause, with_row}
@@ -28,6 +28,22 @@ use Rattle.hk_cdcl.proofs.Logging.{logged-none, logged-more}
 use Rattle.hk_cdcl.proofs.Naming.{hints-named, derives-named}
 use Rattle.hk_cdcl.proofs.Running.{satisfies-given}
 use Rattle.hk_cdcl.proofs.Satisfying.{front-true}
+
+-- so is the empty clause, where the list is the same
+pub closes-same : (s t : Search) (row : LratRow) → t.clauses ≡ s.clauses → Closes s row → Closes t row
+closes-same s t row e k =
+    record {
+      hints = k.hints;
+      is = k.is ∙ ap (λ (c : Clauses). Add (length c.clauses + 1) [] k.hints) (sym e);
+      derived = subst (λ (c : Clauses). Derives c.clauses [] k.hints) (sym e) k.derived;
+    }
+
+-- a call between two states with the same clauses and rows
+pub ran-between : (budget : ℕ) (s t u v : Search) (r : Result Found AllocError) → t.log ≡ s.log → v.clauses ≡ u.clauses → v.log ≡ u.log → IfOk r (Ran budget t u) → IfOk r (Ran budget s v)
+ran-between budget s t u v (Err e) el fc fl h = tt
+ran-between budget s t u v (Ok (FoundSat a)) el fc fl h = subst (λ c. Satisfies c a) (sym fc) h
+ran-between budget s t u v (Ok (FoundUnsat row)) el fc fl h = closes-same u v row fc h
+ran-between budget s t u v (Ok FoundSpent) el fc fl h = ap length fl ∙ (h ∙ ap (λ l. length l + budget) el)
 
 -- nothing came
 pub learns-same : (s t : Search) → t.clauses ≡ s.clauses → t.log ≡ s.log → Learns s t
@@ -96,14 +112,6 @@ closes-named s part names row id hints k h e n =
           (derives-named part.clauses.clauses s.clauses.clauses names [] k.hints h k.derived);
     }
 
-pub closes-same : (s t : Search) (row : LratRow) → t.clauses ≡ s.clauses → Closes s row → Closes t row
-closes-same s t row e k =
-    record {
-      hints = k.hints;
-      is = k.is ∙ ap (λ (c : Clauses). Add (length c.clauses + 1) [] k.hints) (sym e);
-      derived = subst (λ (c : Clauses). Derives c.clauses [] k.hints) (sym e) k.derived;
-    }
-
 -- a segment begins over a part of the list
 pub begun-part : (given : ℕ) (whole active : Search) (p : Part) → IsPart given whole.clauses p → active.clauses ≡ p.clauses → active.log ≡ [] → IsBegun given whole active p.names.items
 begun-part given whole active p h ec el =
@@ -112,6 +120,16 @@ begun-part given whole active p h ec el =
       front = subst (λ (k : Clauses). Grown (take given whole.clauses.clauses) k.clauses) (sym ec) h.front;
       are_names = subst (λ (k : Clauses). AreNames k.clauses whole.clauses.clauses p.names.items) (sym ec) h.names;
       none = el;
+    }
+
+-- the whole list is the same behind it
+pub begun-same : (given : ℕ) (whole now active : Search) (names : List ℕ) → now.clauses ≡ whole.clauses → IsBegun given whole active names → IsBegun given now active names
+begun-same given whole now active names e b =
+    record {
+      vars = b.vars ∙ ap (λ (c : Clauses). c.vars) (sym e);
+      front = subst (λ (c : Clauses). Grown (take given c.clauses) active.clauses.clauses) (sym e) b.front;
+      are_names = subst (λ (c : Clauses). AreNames active.clauses.clauses c.clauses names) (sym e) b.are_names;
+      none = b.none;
     }
 
 -- the list of a segment is logged over its first state
@@ -176,6 +194,18 @@ answers-told given whole begun active now names (Ok (Some (Unsat row))) le b g l
 answers-told given whole begun active now names (Ok (Some (Sat a))) le b g l h =
     subst (λ k. Satisfies k a) (sym (front-learns given whole now le l))
     (satisfies-front given whole.clauses active.clauses a (searched-front given whole begun active names b g) ((begun-logged begun active b.none g).vars ∙ b.vars) h)
+
+-- the answer of a segment over the whole list
+pub answers-ran : (given budget : ℕ) (old new : Search) (f : Found) → given ≤ length old.clauses.clauses → IsLogged (front_of given old.clauses) old.clauses old.log → Grows old new → Ran budget old new f → IfSome (answer_of f) (Answers given new)
+answers-ran given budget old new (FoundSat a) le h g k =
+    subst (λ c. Satisfies c a) (sym (front-learns given old new le (learns-grown (front_of given old.clauses) old new h g)))
+    (satisfies-given (front_of given old.clauses) new.clauses new.log a (g.logged (front_of given old.clauses) h) k)
+answers-ran given budget old new (FoundUnsat row) le h g k = k
+answers-ran given budget old new FoundSpent le h g k = tt
+
+-- the list is logged again
+pub logged-learns : (given : ℕ) (s t : Search) → given ≤ length s.clauses.clauses → IsLogged (front_of given s.clauses) s.clauses s.log → Learns s t → IsLogged (front_of given t.clauses) t.clauses t.log
+logged-learns given s t le h g = subst (λ c. IsLogged c t.clauses t.log) (sym (front-learns given s t le g)) (g.logged (front_of given s.clauses) h)
 
 -- the answer of the call
 pub called-answer : (given budget : ℕ) (old new : Search) (r : Answer) → given ≤ length old.clauses.clauses → Learns old new → Answers given new r → Called given budget old new (found_of r)

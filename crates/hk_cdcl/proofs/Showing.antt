@@ -1,7 +1,7 @@
 -- Watches as they are kept and as contracts see them.
 use Rattle.std.proofs.Common.{◌≡◌, ◌≢◌, ◌⊎◌, ℕ, ◌+◌, ◌-◌, ◌<◌, ◌≤◌, ◌^◌, Bool, true, false, List, [], ◌∷◌, ◌++◌, map, length, take, set, get_or, ℤ, pos, refl, sym, ◌∙◌, ap, subst, inl, inr, arith}
 use Rattle.std.specs.Prelude.{suc, nat_le, if◌then◌else◌}
-use Rattle.std.proofs.lemmas.Bool.{cases_lt, leb-true, le-leb, lt-leb}
+use Rattle.std.proofs.lemmas.Bool.{cases_lt, le-leb, lt-leb}
 use Rattle.std.proofs.lemmas.List.{get_or_default, get_or-map, get_or_past, length-map, get_or-set_other, map-set, map_push, take-map}
 use Rattle.std.specs.List.{All, swap_remove}
 use Rattle.hk_cnf.specs.Literal.{code_of}

@@ -1,5 +1,5 @@
 -- A search in segments, each over the given clauses and some of the learned ones.
-use Rattle.std.specs.Prelude.{◌≡◌, ℕ, ◌+◌, ◌-◌, ◌<◌, ◌≤◌, false, List, [], ◌++◌, length, take, slice_index_or, ℤ}
+use Rattle.std.specs.Prelude.{◌≡◌, ℕ, ◌+◌, ◌-◌, ◌<◌, ◌≤◌, false, Option, Some, None, List, [], ◌++◌, length, take, slice_index_or, ℤ}
 use Rattle.hk_cnf.specs.Clauses.{Clauses}
 use Rattle.hk_lrat.specs.declared.log.LratRow.{LratRow}
 use Rattle.hk_lrat.specs.declared.log.LratRow.TheVariants.{Add}
@@ -67,6 +67,12 @@ Tells active whole (Unsat row) = Closes whole row
 abbrev pub Answers : ℕ → Search → Answer → Type 0
 Answers given whole (Sat a) = Satisfies (front_of given whole.clauses) a
 Answers given whole (Unsat row) = Closes whole row
+
+-- the answer of a segment over the whole list
+abbrev pub answer_of : Found → Option Answer
+answer_of (FoundSat a) = Some (Sat a)
+answer_of (FoundUnsat row) = Some (Unsat row)
+answer_of FoundSpent = None
 
 -- the answer of a call that a segment gave
 abbrev pub found_of : Answer → Found

@@ -1,5 +1,5 @@
 -- The records of clauses as contracts see them, and literals by their codes.
-use Rattle.std.specs.Prelude.{◌≡◌, ℕ, suc, ◌%◌, ◌/◌, nat_eq, if◌then◌else◌, List, [], ◌∷◌, length, take, ℤ, pos, negsuc, slice_index_or}
+use Rattle.std.specs.Prelude.{ℕ, suc, ◌%◌, ◌/◌, nat_eq, if◌then◌else◌, List, [], ◌∷◌, ℤ, pos, negsuc, slice_index_or}
 
 -- the literal with a code: even for a variable, odd for its negation
 abbrev pub lit_of : ℕ → ℤ

@@ -1,7 +1,7 @@
 -- What watched literals keep: which clauses are looked at when a literal becomes false.
-use Rattle.std.specs.Prelude.{◌≡◌, ◌≢◌, ◌⊎◌, ℕ, ◌+◌, ◌*◌, ◌<◌, ◌≤◌, true, false, List, [], ◌∷◌, ◌++◌, length, take, ℤ, pos, neg_ℤ, slice_index_or, slice_index, slice_set, Bool, ◌-◌}
-use Rattle.std.specs.List.{All, AllPairs, swap_remove}
-use Rattle.hk_cnf.specs.Literal.{code_of, has}
+use Rattle.std.specs.Prelude.{◌≡◌, ◌≢◌, ◌⊎◌, ℕ, ◌+◌, ◌*◌, ◌<◌, ◌≤◌, true, false, List, [], ◌∷◌, ◌++◌, length, take, ℤ, pos, neg_ℤ, slice_index_or, slice_index, Bool, ◌-◌}
+use Rattle.std.specs.List.{All, AllPairs}
+use Rattle.hk_cnf.specs.Literal.{has}
 use Rattle.hk_cdcl.specs.declared.watched.Watched.{Watched}
 use Rattle.hk_cdcl.specs.declared.watched.Visit.{Visit}
 use Rattle.hk_cdcl.specs.declared.watched.Visit.TheVariants.{Stays, Goes, Stops, Wants}

@@ -117,29 +117,41 @@ fn places_of(alloc: Global, ranks: &[(u64, usize)]) -> Result<Vec<usize>, AllocE
     Ok(places)
 }
 
-/// The row of the clause at a place, whose name is its id in the whole list.
-fn row_at(names: &[u64], given: usize, place: usize) -> usize {
-    let name = value_at(names, place.saturating_add(1)) as usize;
-    name.saturating_sub(given).saturating_sub(1)
-}
-
-/// The learned clauses of the segment that stay, as many as there is room for, in the order of their rows.
+/// The learned clauses of a search that stay, as many as there is room for, by their rows in its log, in order.
 pub fn choose(
     alloc: Global,
-    active: &Search,
-    names: &[u64],
+    search: &Search,
     given: usize,
     kept: &[Kept],
     room: usize,
 ) -> Result<Vec<Kept>, AllocError> {
-    let activities = activities(alloc, active, given, kept)?;
-    let places = best(alloc, active, activities.as_slice(), given, room)?;
+    let activities = activities(alloc, search, given, kept)?;
+    let places = best(alloc, search, activities.as_slice(), given, room)?;
     let mut stay = Vec::new(alloc);
     for place in places.as_slice() {
         stay.push(Kept {
-            row: row_at(names, given, *place),
+            row: place.saturating_sub(given),
             activity: value_at(activities.as_slice(), *place),
         })?;
     }
     Ok(stay)
+}
+
+/// The same clauses by their rows in the log of the whole list, where the names of a part's ids are these.
+pub fn renamed(
+    alloc: Global,
+    kept: &[Kept],
+    names: &[u64],
+    given: usize,
+) -> Result<Vec<Kept>, AllocError> {
+    let mut renamed = Vec::new(alloc);
+    for clause in kept {
+        let id = clause.row.saturating_add(given).saturating_add(1);
+        let name = value_at(names, id) as usize;
+        renamed.push(Kept {
+            row: name.saturating_sub(given).saturating_sub(1),
+            activity: clause.activity,
+        })?;
+    }
+    Ok(renamed)
 }

@@ -97,7 +97,7 @@ pub fn call(
 {
     let clauses = search.clauses.len();
     let rows = search.log.len();
-    let end = segments(alloc, given, search, active, kept, budget)?;
+    let end = segments(alloc, given, search, active, watched, kept, budget)?;
     if let Some(answer) = end {
         return Ok(found_of(answer));
     }

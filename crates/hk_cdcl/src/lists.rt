@@ -51,12 +51,22 @@ impl SlotList {
         self.occurrences = self.occurrences.saturating_add(1);
     }
 
-    /// Makes room for all clauses that were counted.
+    /// Makes room for all clauses that were counted; where it was made before, for a quarter more.
     fn reserve(&mut self) -> Result<(), AllocError>
         ensures { self.new ≡ self.old }
     {
+        let capacity = self.items.capacity();
+        if self.occurrences <= capacity {
+            return Ok(());
+        }
+        let more = if capacity == 0 {
+            0
+        } else {
+            self.occurrences / 4
+        };
+        let room = self.occurrences.saturating_add(more);
         self.items
-            .reserve(self.occurrences.saturating_sub(self.items.len()))?;
+            .reserve_exact(room.saturating_sub(self.items.len()))?;
         Ok(())
     }
 

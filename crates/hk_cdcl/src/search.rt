@@ -239,7 +239,7 @@ pub fn next_id(clauses: &mut ClauseList) -> Result<u64, AllocError>
 
 impl Search {
     /// Unsets all but the first literals.
-    fn cut(&mut self, kept: usize)
+    pub fn cut(&mut self, kept: usize)
         requires { kept ≤ length self.old.trail.lits }
         ensures trail { self.new.trail ≡ cut_at self.old.trail kept }
         ensures clauses { self.new.clauses ≡ self.old.clauses }

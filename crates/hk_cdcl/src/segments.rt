@@ -1,12 +1,14 @@
-//! A search in segments. Each is a search of its own over the given clauses and the learned ones that stay; what it learns
-//! comes to the whole list, and then most of it is left behind. So the clauses that are watched stay few, as in MiniSat
-//! (Eén and Sörensson 2003).
+//! A search in segments. As long as all learned clauses stay, a segment goes over the whole list. Then each is a search of its own
+//! over the given clauses and the learned ones that stay; what it learns comes to the whole list, and then most of it is left
+//! behind. So the clauses that are watched stay few, as in MiniSat (Eén and Sörensson 2003).
 
 ghost use Rattle.std.specs.Prelude.{◌≡◌, ◌-◌, ◌<◌, ◌≤◌, length, take, IfOk, IfSome, OnOk};
-ghost use Rattle.hk_cdcl.specs.Names.{AreNames};
-ghost use Rattle.hk_cdcl.specs.Forgetting.{IsBegun, IsSearched, Learns, Says, Tells, Answers};
+ghost use Rattle.hk_cdcl.specs.Names.{AreNames, front_of};
+ghost use Rattle.hk_cdcl.specs.Forgetting.{IsBegun, IsSearched, Learns, Says, Tells, Answers, answer_of};
+ghost use Rattle.hk_cdcl.specs.Searching.{IsLogged};
+ghost use Rattle.hk_cdcl.specs.States.{Grows, Ran};
 
-use crate::active::{Kept, choose};
+use crate::active::{Kept, choose, renamed};
 use crate::names::{Part, close_named, learn_named, part_of};
 use crate::search::{Found, Search};
 use crate::solver::run;
@@ -86,7 +88,6 @@ fn begin(
     ensures { IfOk result (λ names. IsBegun given whole.now active.new names.items) }
 {
     let Part { clauses, names } = part_of(alloc, &whole.clauses, given, kept)?;
-    active.order.widen(clauses.vars() as usize)?;
     active.clauses = clauses;
     active.log = LratLog::new(alloc);
     Ok(names)
@@ -135,8 +136,37 @@ fn tell(
     }
 }
 
-/// A segment with this budget. Behind it there is room for so many learned clauses.
-fn segment(
+/// Exchanges the orders of decisions, with all activities and values that variables had last.
+fn exchange_orders(one: &mut Search, other: &mut Search)
+    ensures one_clauses { one.new.clauses ≡ one.old.clauses }
+    ensures one_log { one.new.log ≡ one.old.log }
+    ensures other_clauses { other.new.clauses ≡ other.old.clauses }
+    ensures other_log { other.new.log ≡ other.old.log }
+{
+    std::mem::swap(&mut one.order, &mut other.order);
+}
+
+/// A call with this budget over a part of the whole list, in the order of decisions of the whole search.
+fn run_part(
+    alloc: Global,
+    whole: &mut Search,
+    active: &mut Search,
+    budget: u64,
+) -> Result<Found, AllocError>
+    ensures clauses { whole.new.clauses ≡ whole.old.clauses }
+    ensures log { whole.new.log ≡ whole.old.log }
+    ensures grows { Grows active.old active.new }
+    ensures ran { IfOk result (Ran budget active.old active.new) }
+{
+    let mut watched = Watched::new(alloc);
+    exchange_orders(whole, active);
+    let found = run(alloc, active, &mut watched, budget);
+    exchange_orders(whole, active);
+    found
+}
+
+/// A segment with this budget over the given clauses and those that stay. Behind it there is room for so many learned clauses.
+fn segment_of_kept(
     alloc: Global,
     given: usize,
     whole: &mut Search,
@@ -150,18 +180,65 @@ fn segment(
     ensures answers { IfOk result (λ r. IfSome r (Answers given whole.new)) }
 {
     let mut names = begin(alloc, given, whole, active, kept.as_slice())?;
-    let mut watched = Watched::new(alloc);
-    let found = run(alloc, active, &mut watched, budget)?;
+    let found = run_part(alloc, whole, active, budget)?;
     take_over(alloc, whole, active, &mut names)?;
-    *kept = choose(
-        alloc,
-        active,
-        names.as_slice(),
-        given,
-        kept.as_slice(),
-        room,
-    )?;
+    let stay = choose(alloc, active, given, kept.as_slice(), room)?;
+    *kept = renamed(alloc, stay.as_slice(), names.as_slice(), given)?;
     tell(alloc, whole, active, names.as_slice(), found)
+}
+
+/// The answer of a segment over the whole list.
+fn answer_of(found: Found) -> Option<Answer>
+    ensures { result ≡ answer_of found }
+{
+    match found {
+        Found::Sat(assignment) => Some(Answer::Sat(assignment)),
+        Found::Unsat(row) => Some(Answer::Unsat(row)),
+        Found::Spent => None,
+    }
+}
+
+/// A segment with this budget over the whole list. Behind it there is room for so many learned clauses.
+fn segment_of_all(
+    alloc: Global,
+    given: usize,
+    whole: &mut Search,
+    watched: &mut Watched,
+    kept: &mut Vec<Kept>,
+    budget: u64,
+    room: usize,
+) -> Result<Option<Answer>, AllocError>
+    requires inside { given ≤ length whole.old.clauses.clauses }
+    requires logged { IsLogged (front_of given whole.old.clauses) whole.old.clauses whole.old.log }
+    ensures learns { Learns whole.old whole.new }
+    ensures answers { IfOk result (λ r. IfSome r (Answers given whole.new)) }
+{
+    let found = run(alloc, whole, watched, budget)?;
+    *kept = choose(alloc, whole, given, kept.as_slice(), room)?;
+    Ok(answer_of(found))
+}
+
+/// A segment with this budget: over the whole list as long as all learned clauses stay, which takes no copy of it.
+fn segment(
+    alloc: Global,
+    given: usize,
+    whole: &mut Search,
+    active: &mut Search,
+    watched: &mut Watched,
+    kept: &mut Vec<Kept>,
+    budget: u64,
+    room: usize,
+) -> Result<Option<Answer>, AllocError>
+    requires inside { given ≤ length whole.old.clauses.clauses }
+    requires logged { IsLogged (front_of given whole.old.clauses) whole.old.clauses whole.old.log }
+    ensures learns { Learns whole.old whole.new }
+    ensures answers { IfOk result (λ r. IfSome r (Answers given whole.new)) }
+{
+    if whole.log.len() == kept.len() {
+        return segment_of_all(alloc, given, whole, watched, kept, budget, room);
+    }
+    *watched = Watched::new(alloc);
+    segment_of_kept(alloc, given, whole, active, kept, budget, room)
 }
 
 /// Segments one after another until one has an answer, or they learned as many clauses as the budget says.
@@ -170,10 +247,12 @@ pub fn segments(
     given: usize,
     whole: &mut Search,
     active: &mut Search,
+    watched: &mut Watched,
     kept: &mut Vec<Kept>,
     budget: u64,
 ) -> Result<Option<Answer>, AllocError>
-    requires { given ≤ length whole.old.clauses.clauses }
+    requires inside { given ≤ length whole.old.clauses.clauses }
+    requires logged { IsLogged (front_of given whole.old.clauses) whole.old.clauses whole.old.log }
     ensures learns { Learns whole.old whole.new }
     ensures answers { IfOk result (λ r. IfSome r (Answers given whole.new)) }
 {
@@ -181,7 +260,7 @@ pub fn segments(
     let mut left = budget;
     'more: while 0 < left {
         let most = plan.budget(left);
-        let end = segment(alloc, given, whole, active, kept, most, plan.room)?;
+        let end = segment(alloc, given, whole, active, watched, kept, most, plan.room)?;
         if let Some(answer) = end {
             return Ok(Some(answer));
         }

@@ -63,8 +63,8 @@ fn solve_with<P: Propagate>(
     }
 }
 
-/// A call with this budget. The watches take the room that they had in earlier calls.
-pub fn run(
+/// A call with this budget, behind which variables are still set.
+fn run_through(
     alloc: Global,
     search: &mut Search,
     watched: &mut Watched,
@@ -76,6 +76,21 @@ pub fn run(
     search.begin(alloc, budget)?;
     watched.restart();
     solve_with(alloc, search, watched)
+}
+
+/// A call with this budget. The watches take the room that they had in earlier calls. No variable is set behind it.
+pub fn run(
+    alloc: Global,
+    search: &mut Search,
+    watched: &mut Watched,
+    budget: u64,
+) -> Result<Found, AllocError>
+    ensures grows { Grows search.old search.new }
+    ensures ran { IfOk result (Ran budget search.old search.new) }
+{
+    let found = run_through(alloc, search, watched, budget);
+    search.cut(0);
+    found
 }
 
 /// The list's clauses, and behind them those of another list from a place on.

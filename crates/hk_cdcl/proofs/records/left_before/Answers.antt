@@ -1,6 +1,5 @@
-use Rattle.std.proofs.Common.{◌≡◌, map, length, subst}
+use Rattle.std.proofs.Common.{◌≡◌, map, length}
 use Rattle.std.proofs.lemmas.List.{length-map}
-use Rattle.hk_cdcl.specs.Looking.{AreFalseBetween}
 use Rattle.hk_cdcl.specs.Records.{lit_of}
 use Rattle.hk_cdcl.proofs.Blocking.{found-before}
 use Rattle.hk_cdcl.proofs.records.left_before.Goals as goal

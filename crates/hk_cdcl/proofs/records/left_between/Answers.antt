@@ -3,7 +3,6 @@ use Rattle.std.proofs.lemmas.List.{get_or-map, length-map}
 use Rattle.hk_cnf.specs.Literal.{IsWithin, has}
 use Rattle.hk_cdcl.specs.Path.{lit_at}
 use Rattle.hk_cdcl.specs.Records.{lit_of}
-use Rattle.hk_cdcl.specs.Looking.{IsLeftAt}
 use Rattle.hk_cdcl.proofs.Blocking.{false-more, false-until}
 use Rattle.hk_cdcl.proofs.records.left_between.Goals as goal
 

@@ -1,6 +1,5 @@
-use Rattle.std.proofs.Common.{◌≡◌, ◌≢◌, ◌⊎◌, ◌+◌, ◌*◌, ◌<◌, ◌≤◌, ◌^◌, ℕ, Bool, true, false, List, ◌∷◌, [], ◌++◌, length, map, take, set, ℤ, pos, neg_ℤ, IfSome, MatchOption, refl, sym, ◌∙◌, ap, subst, arith}
-use Rattle.hk_cdcl.specs.Packing.{word, pair_of, codes_of, text_of}
-use Rattle.hk_cdcl.specs.Records.{lit_of, text_at, place_in}
+use Rattle.std.proofs.Common.{◌<◌, ◌≤◌, length, refl, arith}
+use Rattle.hk_cdcl.specs.Records.{text_at, place_in}
 use Rattle.hk_cdcl.proofs.Packed.{StandsAt, stands}
 use Rattle.hk_cdcl.proofs.Packed.{resumed-as}
 use Rattle.hk_cdcl.proofs.records.Records.resume.Goals as goal

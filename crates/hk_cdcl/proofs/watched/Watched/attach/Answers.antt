@@ -1,4 +1,4 @@
-use Rattle.std.proofs.Common.{◌≡◌, ◌<◌, true, neg_ℤ, length, sym, ◌∙◌, ap, subst}
+use Rattle.std.proofs.Common.{◌≡◌, ◌<◌, true, neg_ℤ, length, sym, subst}
 use Rattle.std.specs.List.{All}
 use Rattle.hk_cnf.specs.Literal.{has}
 use Rattle.hk_cdcl.proofs.Extending.{extends-refl}

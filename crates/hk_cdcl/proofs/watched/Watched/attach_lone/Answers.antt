@@ -1,12 +1,8 @@
-use Rattle.std.proofs.Common.{◌≡◌, ◌≢◌, ◌⊎◌, ◌+◌, ◌*◌, ◌<◌, ◌≤◌, ◌^◌, ℕ, Bool, true, false, List, [], length, take, ℤ, pos, neg_ℤ, refl, sym, ◌∙◌, ap, subst, arith}
+use Rattle.std.proofs.Common.{◌≡◌, ◌≢◌, ◌+◌, ◌<◌, true, List, length, ℤ, pos, refl, sym, ◌∙◌, ap, subst}
 use Rattle.std.specs.List.{All}
 use Rattle.hk_cnf.specs.Literal.{IsWithin, code_of, has}
-use Rattle.hk_cdcl.specs.declared.watched.Watched.{Watched}
-use Rattle.hk_cdcl.specs.Looking.{IsOther, IsOtherOf}
-use Rattle.hk_cdcl.specs.Records.{lit_of, text_at}
-use Rattle.hk_cdcl.specs.Watches.{Plain, clause_in, plain_of, watches_of}
+use Rattle.hk_cdcl.specs.Watches.{Plain, watches_of}
 use Rattle.hk_cdcl.specs.Watching.{clause_no}
-use Rattle.hk_cdcl.proofs.Extending.{extends-refl, extends-trans}
 use Rattle.std.proofs.lemmas.List.{length_push}
 use Rattle.hk_cdcl.specs.Watches.{Watch}
 use Rattle.hk_cdcl.specs.Watching.{IsAttached, IsEnded}

@@ -1,12 +1,7 @@
-use Rattle.std.proofs.Common.{◌≡◌, ◌≢◌, ◌⊎◌, ◌+◌, ◌*◌, ◌<◌, ◌≤◌, ◌^◌, ℕ, Bool, true, false, List, [], length, take, ℤ, pos, neg_ℤ, refl, sym, ◌∙◌, ap, subst, arith}
+use Rattle.std.proofs.Common.{List, length, ℤ, refl, sym, ◌∙◌, ap, subst}
 use Rattle.std.specs.List.{All}
-use Rattle.hk_cnf.specs.Literal.{IsWithin, code_of, has}
-use Rattle.hk_cdcl.specs.declared.watched.Watched.{Watched}
-use Rattle.hk_cdcl.specs.Looking.{IsOther, IsOtherOf}
-use Rattle.hk_cdcl.specs.Records.{lit_of, text_at}
-use Rattle.hk_cdcl.specs.Watches.{Plain, clause_in, plain_of, watches_of}
+use Rattle.hk_cnf.specs.Literal.{IsWithin}
 use Rattle.hk_cdcl.specs.Watching.{clause_no}
-use Rattle.hk_cdcl.proofs.Extending.{extends-refl, extends-trans}
 use Rattle.hk_cdcl.specs.Watching.{IsAttached, IsFront, IsEnded}
 use Rattle.hk_cdcl.proofs.Moving.{member-nonzero, other-within, code-inside}
 use Rattle.hk_cdcl.proofs.Attaching.{attaches-of, propagating-attached, front-whole, open-ended, open-rests}

@@ -1,6 +1,4 @@
 use Rattle.std.proofs.Common.{◌≡◌, length, subst, arith}
-use Rattle.std.specs.Vec.{vec_len}
-use Rattle.std.proofs.lemmas.Grind.{common_steps}
 use Rattle.hk_cdcl.specs.Watching.{EndsMore}
 use Rattle.hk_cdcl.proofs.Extending.{extends-refl}
 use Rattle.hk_cdcl.proofs.Attaching.{fits-front, propagating-begins, ended-quiet}

@@ -1,12 +1,10 @@
-use Rattle.std.proofs.Common.{◌≡◌, ◌≢◌, ◌⊎◌, ◌+◌, ◌*◌, ◌<◌, ◌≤◌, ◌^◌, ℕ, Bool, true, false, List, [], length, take, ℤ, pos, neg_ℤ, refl, sym, ◌∙◌, ap, subst, arith}
+use Rattle.std.proofs.Common.{◌≡◌, ◌⊎◌, ◌<◌, true, length, neg_ℤ, sym, ◌∙◌, ap, subst}
 use Rattle.std.specs.List.{All}
-use Rattle.hk_cnf.specs.Literal.{IsWithin, code_of, has}
-use Rattle.hk_cdcl.specs.declared.watched.Watched.{Watched}
-use Rattle.hk_cdcl.specs.Looking.{IsOther, IsOtherOf}
-use Rattle.hk_cdcl.specs.Records.{lit_of, text_at}
-use Rattle.hk_cdcl.specs.Watches.{Plain, clause_in, plain_of, watches_of}
+use Rattle.hk_cnf.specs.Literal.{IsWithin, has}
+use Rattle.hk_cdcl.specs.Records.{lit_of}
+use Rattle.hk_cdcl.specs.Watches.{clause_in}
 use Rattle.hk_cdcl.specs.Watching.{clause_no}
-use Rattle.hk_cdcl.proofs.Extending.{extends-refl, extends-trans}
+use Rattle.hk_cdcl.proofs.Extending.{extends-refl}
 use Rattle.hk_cdcl.proofs.Moving.{visited-settled, fewer-settled}
 use Rattle.hk_cdcl.proofs.Looks.{Look, look-names, look-start, look-inside, look-within, look-stays, look-member, look-others}
 use Rattle.hk_cdcl.proofs.watched.Watched.visit.Goals as goal

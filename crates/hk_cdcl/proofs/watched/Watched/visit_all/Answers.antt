@@ -1,11 +1,6 @@
-use Rattle.std.proofs.Common.{◌≡◌, ◌≢◌, ◌⊎◌, ◌+◌, ◌*◌, ◌<◌, ◌≤◌, ◌^◌, ℕ, Bool, true, false, List, [], length, take, ℤ, pos, neg_ℤ, refl, sym, ◌∙◌, ap, subst, arith}
-use Rattle.std.specs.List.{All}
-use Rattle.hk_cnf.specs.Literal.{IsWithin, code_of, has}
-use Rattle.hk_cdcl.specs.declared.watched.Watched.{Watched}
-use Rattle.hk_cdcl.specs.Looking.{IsOther, IsOtherOf}
-use Rattle.hk_cdcl.specs.Records.{lit_of, text_at}
-use Rattle.hk_cdcl.specs.Watches.{Plain, clause_in, plain_of, watches_of}
-use Rattle.hk_cdcl.specs.Watching.{clause_no}
+use Rattle.std.proofs.Common.{◌≡◌, ◌*◌, ◌<◌, ◌≤◌, length, arith}
+use Rattle.hk_cnf.specs.Literal.{IsWithin}
+use Rattle.hk_cdcl.specs.Records.{lit_of}
 use Rattle.hk_cdcl.proofs.Extending.{extends-refl, extends-trans}
 use Rattle.hk_cdcl.proofs.Moving.{head-within}
 use Rattle.hk_cdcl.proofs.Codes.{code-below}

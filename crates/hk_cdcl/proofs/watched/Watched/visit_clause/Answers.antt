@@ -1,12 +1,11 @@
-use Rattle.std.proofs.Common.{◌≡◌, ◌≢◌, ◌⊎◌, ◌+◌, ◌*◌, ◌<◌, ◌≤◌, ◌^◌, ℕ, Bool, true, false, List, [], length, take, ℤ, pos, neg_ℤ, refl, sym, ◌∙◌, ap, subst, arith}
+use Rattle.std.proofs.Common.{◌≡◌, ◌⊎◌, ◌<◌, true, length, neg_ℤ, sym, ◌∙◌, ap, subst}
 use Rattle.std.specs.List.{All}
-use Rattle.hk_cnf.specs.Literal.{IsWithin, code_of, has}
-use Rattle.hk_cdcl.specs.declared.watched.Watched.{Watched}
-use Rattle.hk_cdcl.specs.Looking.{IsOther, IsOtherOf}
+use Rattle.hk_cnf.specs.Literal.{IsWithin, has}
+use Rattle.hk_cdcl.specs.Looking.{IsOther}
 use Rattle.hk_cdcl.specs.Records.{lit_of, text_at}
-use Rattle.hk_cdcl.specs.Watches.{Plain, clause_in, plain_of, watches_of}
+use Rattle.hk_cdcl.specs.Watches.{Plain, clause_in, plain_of}
 use Rattle.hk_cdcl.specs.Watching.{clause_no}
-use Rattle.hk_cdcl.proofs.Extending.{extends-refl, extends-trans}
+use Rattle.hk_cdcl.proofs.Extending.{extends-refl}
 use Rattle.hk_cdcl.proofs.Moving.{visited-settled, fewer-settled}
 use Rattle.hk_cdcl.proofs.Blocking.{Blocked, turning-blocked, clause-blocked, stays-blocked, length-blocked, fewer-blocked}
 use Rattle.hk_cdcl.proofs.Looks.{Look, look-start, look-inside, look-text, look-lits, other-member, other-in, look-blocked, blocked-inside, look-moves}

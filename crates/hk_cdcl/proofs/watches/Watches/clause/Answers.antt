@@ -1,4 +1,4 @@
-use Rattle.std.proofs.Common.{sym, ◌∙◌, ap}
+use Rattle.std.proofs.Common.{sym, ◌∙◌}
 use Rattle.hk_cdcl.proofs.Showing.{long-start, long-place, target-binary}
 use Rattle.hk_cdcl.proofs.watches.Watches.clause.Goals as goal
 
