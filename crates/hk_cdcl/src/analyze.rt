@@ -23,6 +23,7 @@ pub fn is_seen(trail: &Trail, seen: &Seen, place: usize) -> bool
     ensures { result ≡ seen_at seen.now (lit_at trail.now.lits place) }
 {
     let lit = trail.lit(place);
+    // For the proof: the trail's literals are of its variables.
     let _path = trail.len();
     seen.is_marked(lit.place())
 }
@@ -66,6 +67,7 @@ fn mark_all(
     ensures marks { OnOk result (Marks seen.old seen.new clause.now) }
     ensures lower { OnOk result (IsTracked trail.now.lits below seen.old lower.old.items → IsTracked trail.now.lits below seen.new lower.new.items) }
 {
+    // For the proof: the trail's literals are of its variables and apart.
     let _path = trail.len();
     for lit in clause {
         mark_one(seen, trail, below, *lit, lower)?;

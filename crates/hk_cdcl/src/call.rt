@@ -64,6 +64,7 @@ fn go_back(
 {
     let log = first_rows(alloc, &search.log, rows)?;
     let vars = search.clauses.vars();
+    // For the proof: the clauses' literals are of the list's variables.
     let _within = search.clauses.len();
     search.clauses.cut(vars, clauses);
     search.log = log;

@@ -147,6 +147,7 @@ fn dropped_hints(alloc: Global, trail: &Trail, dropped: &[usize]) -> Result<IdLi
     requires rising { IsNonDecreasing dropped.now }
     ensures { IfOk result (λ hints. (clauses : List (List ℤ)) (seen : List Bool) (from : ℕ) (c : List ℤ) (conflict : ℕ) → from ≤ length trail.now.lits → IsDerivable clauses trail.now seen dropped.now from c conflict → Leads clauses c seen trail.now.lits from hints) }
 {
+    // For the proof: there are no more literals on the trail than variables, which are fewer than 2^63.
     let _path = trail.len();
     let mut hints = IdList::new(alloc);
     let mut next = 0;
@@ -250,7 +251,9 @@ pub fn learn(
     ensures len { length seen.new ≡ length seen.old }
     ensures order { order.new ≡ order.old }
 {
+    // For the proof: the number of clauses fits 64 bits.
     let _few = clauses.len();
+    // For the proof: the trail's literals are of its variables and apart.
     let _path = trail.len();
     let mut lower = Vec::new(alloc);
     let uip = analyze(clauses, trail, below, seen, conflict, &mut lower)?;
@@ -284,7 +287,9 @@ pub fn refute(
     ensures derived { IfOk result (λ hints. Derives clauses.now.clauses [] hints) }
     ensures len { length seen.new ≡ length seen.old }
 {
+    // For the proof: the number of clauses fits 64 bits.
     let _few = clauses.len();
+    // For the proof: the trail's literals are of its variables and apart.
     let _path = trail.len();
     let mut lower = Vec::new(alloc);
     analyze_zero(clauses, trail, seen, conflict, &mut lower)?;

@@ -29,6 +29,7 @@ fn add_place(part: &mut Part, whole: &ClauseList, place: usize) -> Result<(), Al
     ensures clauses { OnOk result (part.new.clauses ≡ with_clause part.old.clauses (slice_index_or whole.now.clauses place [])) }
     ensures names { OnOk result (part.new.names.items ≡ part.old.names.items ++ (place + 1) ∷ []) }
 {
+    // For the proof: the number of clauses fits 64 bits.
     let _few = whole.len();
     part.clauses.push(whole.clause(place))?;
     part.names.push(place as u64 + 1)?;

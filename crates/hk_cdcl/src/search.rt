@@ -168,6 +168,7 @@ impl Search {
         self.levels.push(len)?;
         let lit = literal_of(place, self.order.phase(place as usize));
         self.trail.push(lit, 0);
+        // For the proof: the trail has no more literals than variables, the new one among them.
         let _count = self.trail.len();
         Ok(())
     }
@@ -182,6 +183,7 @@ impl Search {
         ensures left { self.new.left ≡ self.old.left }
         ensures advanced { IfOk result (λ r. MatchOption r (IsDecided self.old self.new) (Satisfies self.old.clauses)) }
     {
+        // For the proof: the clauses' literals are of the list's variables.
         let _within = self.clauses.len();
         match next_unset(&mut self.order, &self.trail) {
             Some(place) => {
@@ -262,6 +264,7 @@ impl Search {
         ensures grows { Grows self.old self.new }
         ensures spends { Spends self.old self.new }
     {
+        // For the proof: the trail's literals are of its variables and apart.
         let _path = self.trail.len();
         let below = self.levels[self.levels.len() - 1];
         let Learned {

@@ -50,6 +50,7 @@ fn solve_with<P: Propagate>(
 {
     propagate.added(&search.clauses)?;
     'steps: loop {
+        // For the proof: the trail's literals are of its variables and apart.
         let _path = search.trail.len();
         let conflict = propagate.propagate(&search.clauses, &mut search.trail);
         match search.respond(alloc, conflict)? {
@@ -127,6 +128,7 @@ fn grow_search(search: &mut Search, list: &ClauseList, given: usize) -> Result<(
     let alloc = *search.levels.allocator();
     let joined = joined(alloc, list, &search.clauses, given)?;
     search.order.widen(list.vars() as usize)?;
+    // For the proof: the number of joined clauses fits 64 bits.
     let _few = joined.len();
     let by = list.len() - given;
     search.log.raise(given as u64, by as u64);

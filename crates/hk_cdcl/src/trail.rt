@@ -166,6 +166,7 @@ impl Trail {
         requires { place < self.now.vars }
         ensures { result ≡ is_set self.now.lits place }
     {
+        // For the proof: the trail's invariant, by which there are fewer than 2^63 variables.
         let _few = self.vars;
         let lit = Lit::of_place(place);
         self.holds(lit) || self.holds(lit.negated())

@@ -101,6 +101,7 @@ fn imply(clauses: &ClauseList, trail: &mut Trail, place: usize, lit: Lit) -> boo
     if trail.holds(lit) {
         return true;
     }
+    // For the proof: the number of clauses fits 64 bits.
     let _few = clauses.len();
     if trail.holds(lit.negated()) {
         return false;
@@ -161,8 +162,11 @@ impl Watched {
         ensures visited { Visited clauses.now.clauses self.new trail.now head (lit_of code) place result }
         ensures fewer { Fewer self.old.watches.lists self.new.watches.lists (lit_of code) result }
     {
+        // For the proof: the clauses' literals are of the list's variables.
         let _within = clauses.len();
+        // For the proof: the trail's literals are of its variables and apart.
         let _path = trail.len();
+        // For the proof: there are as many pairs as texts and starts of watched clauses.
         let _count = self.watches.clauses();
         if trail.holds_code(next) {
             let blocked = Slot {
@@ -199,8 +203,11 @@ impl Watched {
         ensures visited { Visited clauses.now.clauses self.new trail.new head (lit_of code) place result }
         ensures fewer { Fewer self.old.watches.lists self.new.watches.lists (lit_of code) result }
     {
+        // For the proof: the clauses' literals are of the list's variables.
         let _within = clauses.len();
+        // For the proof: the trail's literals are of its variables and apart.
         let _path = trail.len();
+        // For the proof: there are as many pairs as texts and starts of watched clauses.
         let _count = self.watches.clauses();
         let Some(other) = self.watches.other(slot, code) else {
             return Visit::Wants;
@@ -237,8 +244,11 @@ impl Watched {
         ensures visited { Visited clauses.now.clauses self.new trail.new head (lit_of code) place result }
         ensures fewer { Fewer self.old.watches.lists self.new.watches.lists (lit_of code) result }
     {
+        // For the proof: the clauses' literals are of the list's variables.
         let _within = clauses.len();
+        // For the proof: the trail's literals are of its variables and apart.
         let _path = trail.len();
+        // For the proof: there are as many pairs as texts and starts of watched clauses.
         let _count = self.watches.clauses();
         let slot = self.watches.watch(code, place);
         if trail.holds_code(slot.blocker) {
@@ -266,6 +276,7 @@ impl Watched {
         ensures extends { Extends clauses.now.clauses trail.old trail.new }
         ensures came { Came clauses.now.clauses self.new trail.new (head + 1) result }
     {
+        // For the proof: the trail's literals are of its variables.
         let _path = trail.len();
         let mut place = 0;
         while place < self.watches.count(code) {
@@ -287,6 +298,7 @@ impl Watched {
         ensures extends { Extends clauses.now.clauses trail.old trail.new }
         ensures came { Came clauses.now.clauses self.new trail.new (head + 1) result }
     {
+        // For the proof: the trail's literals are of its variables.
         let _path = trail.len();
         let code = trail.lit(head).negated().code();
         if code > u64::from(u32::MAX) {
@@ -382,6 +394,7 @@ impl Watched {
         ensures ends { IsFront self.old.ends.items self.new.ends.items }
         ensures watches { self.new.watches ≡ self.old.watches }
     {
+        // For the proof: the trail's literals are of its variables and apart.
         let _path = trail.len();
         match beside(trail, clause, first) {
             Some(second) => {
@@ -407,6 +420,7 @@ impl Watched {
         ensures watches { IsTrue result → IsAttached clause.now self.old.watches self.new.watches first second }
         ensures ends { self.new.ends ≡ self.old.ends }
     {
+        // For the proof: there are as many pairs as texts and starts of watched clauses.
         let _count = self.watches.clauses();
         let binary = has_only(clause, first, second);
         self.watches.push(vars, clause, first, second, binary)
@@ -456,6 +470,7 @@ impl Watched {
         ensures came { Came clauses.now.clauses self.new trail.now head result }
         ensures next { IfQuiet result (length self.new.watches.pairs ≡ length self.old.watches.pairs + 1) }
     {
+        // For the proof: the clauses' literals are of the list's variables.
         let _within = clauses.len();
         let place = self.watches.clauses();
         let clause = clauses.clause(place);
@@ -483,6 +498,7 @@ impl Watched {
         ensures came { Came clauses.now.clauses self.new trail.new head result }
         ensures next { IfQuiet result (length self.new.watches.pairs ≡ length self.old.watches.pairs + 1) }
     {
+        // For the proof: the clauses' literals are of the list's variables.
         let _within = clauses.len();
         let place = self.watches.clauses();
         if !imply(clauses, trail, place, first) {
@@ -506,7 +522,9 @@ impl Watched {
         ensures came { Came clauses.now.clauses self.new trail.new head result }
         ensures next { IfQuiet result (length self.new.watches.pairs ≡ length self.old.watches.pairs + 1) }
     {
+        // For the proof: the clauses' literals are of the list's variables.
         let _within = clauses.len();
+        // For the proof: the trail's literals are of its variables and apart.
         let _path = trail.len();
         let place = self.watches.clauses();
         let clause = clauses.clause(place);

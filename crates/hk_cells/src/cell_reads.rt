@@ -87,6 +87,7 @@ fn cell_of_object(reads: &ByteReads, parts: &[Part], object: u32) -> Option<u32>
     requires object { object < length (divided reads.now parts.now) }
     ensures { result ≡ cell_in (slice_get (divided reads.now parts.now) object) }
 {
+    // For the proof: the clauses alone speak of the reads.
     let _reads = reads;
     cell_of_part(part_at(parts, object))
 }

@@ -103,6 +103,7 @@ pub(crate) fn number_by_bytes(
     ensures word { IfOk result (λ r. IsWord t.new (8 * bytes) r) }
     ensures value { IfOk result (λ r. (v : Reading) → value t.old offset v + bytes ≤ size → value t.new r v ≡ number_at bytes (value t.old offset v) (object_from (cells size cell) (v.entry array))) }
 {
+    // For the proof: the size is below 2^64.
     let _size = size;
     let mut made = byte_at(t, array, cell, offset)?;
     for byte in 1..bytes {

@@ -88,6 +88,7 @@ fn objects_by(
     requires memory { memory.now ≡ start_memory reads.now (reading_of v.now).entry }
     ensures { IfOk result (λ os. os.items ≡ start_memory (divided reads.now parts.now) (reading_of v.now).entry) }
 {
+    // For the proof: the clauses and the loop's invariant alone speak of the reads.
     let _reads = reads;
     let mut objects = Vec::new(alloc);
     for object in 0..count {

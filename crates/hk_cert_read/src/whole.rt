@@ -97,6 +97,7 @@ pub fn read_certificate(
     ensures { (l : LayoutView) → IsLayoutOf (view_module kernel.now) l →
         Reads result (definition.certificate_of (view_module kernel.now) l.objects (view_spec spec.now) text.now) }
 {
+    // For the proof: the kernel's module is checked, so its initialisers fit.
     let _checked = kernel.checked();
     let initial = KMemory::initial(alloc, kernel.layout())?;
     all_of(alloc, kernel, &initial, spec, text)

@@ -164,6 +164,7 @@ fn check_one(
     ensures stop { (t : plain.Transition) → slice_get (view_spec spec.now).transitions place ≡ Some t →
         IfErr result (IsStopOf (view_module kernel.now) (view_spec spec.now) t at proofs.now) }
 {
+    // For the proof: the kernel has a layout of its module.
     let _layout = kernel.layout();
     match check(alloc, kernel, spec, place, proofs)? {
         Checked::Holds => Ok(rowless(Verdict::Accepted {
@@ -238,6 +239,7 @@ fn check_acceptance<O: Sink>(
     ensures room { vec_capacity verdicts.new ≡ vec_capacity verdicts.old }
     ensures counted { vec_len verdicts.new ≤ vec_len verdicts.old + 1 }
 {
+    // For the proof: the kernel has a layout of its module.
     let _layout = kernel.layout();
     let kept = match check_one(alloc, kernel, spec, place, at, proofs) {
         Ok(kept) => kept,
@@ -325,6 +327,7 @@ pub fn check_claims<O: Sink>(
     ensures still { OnOk result (O.faults out.new ≡ O.faults out.old) }
     ensures stopped { IfErr result (Stops (view_module kernel.now) (view_spec spec.now) entries.now verdicts.new.items (O.shown out.old) (O.shown out.new) (O.faults out.old) (O.faults out.new)) }
 {
+    // For the proof: the kernel has a layout of its module.
     let _layout = kernel.layout();
     let transitions = spec.transitions.as_slice();
     'each: for place in 0..transitions.len() {

@@ -34,6 +34,7 @@ pub fn entries_fit(alloc: Global, kernel: &Kernel) -> Result<(), AllocError>
     ensures { (l : LayoutView) (s : Spec) (text : List ℕ) (entries : List Entry) → IsLayoutOf (view_module kernel.now) l
         → certificate_of (view_module kernel.now) l.objects s text ≡ Ok entries → IfOk result (λ _. AllFit l.objects s entries) }
 {
+    // For the proof: the kernel's module is checked, so its initialisers fit.
     let _checked = kernel.checked();
     let initial = initial_memory(alloc, kernel)?;
     let objects = kernel.layout().objects();

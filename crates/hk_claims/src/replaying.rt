@@ -62,6 +62,7 @@ fn replay_case<O: Sink>(
     ensures still { OnOk result (O.faults out.new ≡ O.faults out.old) }
     ensures stopped { IfErr result (StopsOne (view_module kernel.now) (view_spec spec.now) (view_transition transition.now, Reject obligation case.now) (O.shown out.old) (O.shown out.new) (O.faults out.old) (O.faults out.new)) }
 {
+    // For the proof: the kernel has a layout of its module.
     let _layout = kernel.layout();
     let violated = violates(alloc, kernel, spec, place, obligation, case)?;
     match put_mark(out, spec, transition, obligation, violated) {
@@ -124,6 +125,7 @@ pub fn replay_claims<O: Sink>(
     ensures still { OnOk result (O.faults out.new ≡ O.faults out.old) }
     ensures stopped { IfErr result (Stops (view_module kernel.now) (view_spec spec.now) entries.now (O.shown out.old) (O.shown out.new) (O.faults out.old) (O.faults out.new)) }
 {
+    // For the proof: the kernel has a layout of its module.
     let _layout = kernel.layout();
     let transitions = spec.transitions.as_slice();
     let mut unconfirmed = false;

@@ -96,6 +96,7 @@ fn copy_one(
     ensures next { OnOk result (length places.new.items ≡ at + 1) }
     ensures copied { OnOk result (AreCopied terms.now marks.now new.new places.new.items) }
 {
+    // For the proof: each node of the list fits behind those before it.
     let _len = terms.len();
     let node = renewed(alloc, terms.node(TermId::at(at)), places)?;
     let copy = new.intern(node)?;
@@ -128,6 +129,7 @@ fn copy_where_marked(
     ensures next { OnOk result (length places.new.items ≡ at + 1) }
     ensures copied { OnOk result (AreCopied terms.now marks.now new.new places.new.items) }
 {
+    // For the proof: each node of the list fits behind those before it.
     let _len = terms.len();
     if marks[at as usize] {
         copy_one(alloc, terms, marks, new, places, at)
@@ -168,6 +170,7 @@ pub fn cone_of(alloc: Global, terms: &Terms, root: TermId) -> Result<Cone, Alloc
     ensures reached { IfOk result (λ c. (k : ℕ) → k < length c.terms → Reaches c.terms c.root k) }
     ensures nodes { IfOk result (λ c. (k : ℕ) (n : Node) → slice_get c.terms k ≡ Some n → IsRenewal terms.now n) }
 {
+    // For the proof: each node of the list fits behind those before it.
     let _len = terms.len();
     let marks = marked(alloc, terms, root)?;
     let mut cone = Terms::new(alloc);

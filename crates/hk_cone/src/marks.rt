@@ -75,6 +75,7 @@ fn begun(alloc: Global, terms: &Terms, root: TermId) -> Result<Vec<bool>, AllocE
     requires { root < length terms.now }
     ensures { IfOk result (λ marks. AreMarked terms.now root (root + 1) marks.items) }
 {
+    // For the proof: the list has fewer than 2^63 nodes.
     let _len = terms.len();
     let mut marks = vec![in alloc; false; root.place() as usize + 1]?;
     marks[root.place() as usize] = true;

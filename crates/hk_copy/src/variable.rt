@@ -125,6 +125,7 @@ pub(crate) fn put(terms: &mut Terms, node: Node) -> Result<TermId, AllocError>
     ensures fit { AllFitIn (reverse terms.new) }
 {
     let made = terms.intern(node);
+    // For the proof: each node of the list fits behind those before it.
     let _len = terms.len();
     made
 }

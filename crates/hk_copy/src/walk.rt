@@ -53,6 +53,7 @@ pub fn copy(
     ensures adds { (tests : Tests) → AllPass tests terms.old → StandsPass tests stands.now → AllPass tests terms.new }
 {
     let made = copy_under(alloc, terms, term, stands);
+    // For the proof: each node of the list fits behind those before it.
     let _len = terms.len();
     made
 }
@@ -87,6 +88,7 @@ fn plan_for(
     requires copies { AllCopies terms.now stands.now copies.now }
     ensures { IfOk result (IsPlan terms.now stands.now copies.now t) }
 {
+    // For the proof: each node of the list fits behind those before it.
     let _len = terms.len();
     match terms.node(t) {
         Node::Var { width, id } => Ok(Plan::Variable(*width, *id)),
@@ -203,6 +205,7 @@ fn inside(
 {
     let left = without(alloc, bound.as_slice(), stands)?;
     let copy = copy_under(alloc, terms, body, left.as_slice())?;
+    // For the proof: each node of the list fits behind those before it.
     let _len = terms.len();
     let made = put(terms, Node::ForAll { bound, body: copy })?;
     Ok(made)

@@ -41,6 +41,7 @@ fn memory_of(alloc: Global, kernel: &Kernel, spec: &Spec) -> Result<KMemory, All
     ensures initial { IfOk result (λ memory. memory ≡ initial_memory (view_module kernel.now)) }
     ensures sized { IfOk result (IsMemory spec.now.objects) }
 {
+    // For the proof: the kernel's module is checked, so its initialisers fit.
     let _checked = kernel.checked();
     let layout = kernel.layout();
     let memory = KMemory::initial(alloc, layout)?;

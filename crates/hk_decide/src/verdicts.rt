@@ -33,6 +33,7 @@ fn owed_by(alloc: Global, spec: &Spec, h: u32) -> Result<Seq<Obligation>, AllocE
     requires there { h < length spec.now.transitions }
     ensures { (t : plain.Transition) → slice_get (view_spec spec.now).transitions h ≡ Some t → IfOk result (λ owed. owed ≡ obligations_of (view_spec spec.now) t) }
 {
+    // For the proof: there are fewer than 2^32 invariants, fields and properties each, or it ends for want of memory.
     let _invariants = count_of(spec.invariants.as_slice().len())?;
     let _fields = count_of(spec.fields.as_slice().len())?;
     let _properties = count_of(spec.properties.as_slice().len())?;

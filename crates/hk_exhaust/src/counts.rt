@@ -124,6 +124,7 @@ pub fn case_bits(kernel: &Kernel, spec: &Spec, h: u32, o: Obligation) -> u64
     ensures { (l : LayoutView) (t : plain.Transition) → IsLayoutOf (view_module kernel.now) l → slice_get (view_spec spec.now).transitions h ≡ Some t →
         result ≡ min (definition.case_bits l.objects (view_spec spec.now) t o) (2 ^ 64 - 1) }
 {
+    // For the proof: the kernel's module is checked, so all its layouts have the same objects.
     let _checked = kernel.checked();
     let transition = &spec.transitions.as_slice()[h as usize];
     let states = bits_of_states(kernel.layout(), spec.fields.as_slice(), o);

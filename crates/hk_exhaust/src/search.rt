@@ -113,6 +113,7 @@ pub fn find_in_all(
     requires few { (l : LayoutView) (t : plain.Transition) → IsLayoutOf (view_module kernel.now) l → slice_get (view_spec spec.now).transitions h ≡ Some t → definition.case_bits l.objects (view_spec spec.now) t o ≤ 16 }
     ensures { (l : LayoutView) (t : plain.Transition) → IsLayoutOf (view_module kernel.now) l → slice_get (view_spec spec.now).transitions h ≡ Some t → IfOk result (Finds (view_module kernel.now) l.objects (view_spec spec.now) t o) }
 {
+    // For the proof: the kernel's module is checked, so all its layouts have the same objects.
     let _checked = kernel.checked();
     let layout = kernel.layout();
     let initial = KMemory::initial(alloc, layout)?;

@@ -169,6 +169,7 @@ fn abstract_case(
     requires shape { HasShape handler.now.spec.now handler.now.transition.now o (Abstract state.now args.now) }
     ensures { IfOk result (λ b. Tells b (Violates (view_module kernel.now) (view_spec handler.now.spec.now) (view_transition handler.now.transition.now) o (Abstract state.now args.now))) }
 {
+    // For the proof: the clauses alone speak of the kernel.
     let _kernel = kernel;
     match o {
         Obligation::Property(p) => Ok(abstract_violates(alloc, handler, p, state, args)?),

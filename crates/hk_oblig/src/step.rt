@@ -28,6 +28,7 @@ pub(crate) fn step_listed(alloc: Global, spec: &Spec, h: u32) -> Result<Listed, 
     ensures ready { (u : plain.Transition) → slice_get (view_spec spec.now).transitions h ≡ Some u → IfOk result (λ l. (m : ModuleView) (origins : List Origin) (k : ℕ) →
         IsReady m origins (view_spec spec.now) u l (Property k)) }
 {
+    // For the proof: there are fewer than 2^32 - 1 fields, or it ends for want of memory.
     let _fields = few(spec.fields.as_slice().len())?;
     let transition = &spec.transitions.as_slice()[h as usize];
     let mut terms = Terms::new(alloc);

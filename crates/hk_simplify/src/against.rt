@@ -117,6 +117,7 @@ fn eq_choice(t: &Terms, condition: TermId, first: u64, second: u64, n: u64) -> F
     ensures width { form_width t.now result ≡ 1 }
     ensures value { (v : Reading) → form_value t.now result v ≡ bit (nat_eq (if nat_eq (value t.now condition v) 1 then first else second) n) }
 {
+    // For the proof: the condition's number is below 2 to its width.
     let _w = sized(t, condition);
     if first == n && second == n {
         number(1, 1)
@@ -182,6 +183,7 @@ fn halved(t: &Terms, x: TermId, y: TermId, n: u64) -> Halves
     ensures lower { (result.lower < length t.now) × (result.low < 2 ^ width t.now result.lower) }
     ensures value { (v : Reading) → bit_and (bit (nat_eq (value t.now result.upper v) result.high)) (bit (nat_eq (value t.now result.lower v) result.low)) ≡ bit (nat_eq (value t.now x v * 2 ^ width t.now y + value t.now y v) n) }
 {
+    // For the proof: the upper term's width is from 1 to 64, and its number below 2 to it.
     let _w = sized(t, x);
     let u = sized(t, y);
     Halves {

@@ -76,6 +76,7 @@ fn chosen(t: &Terms, condition: TermId, a: TermId, b: TermId) -> Form
     let zero_a = is_number(t, a, 0);
     let zero_b = is_number(t, b, 0);
     let w = t.width(a);
+    // For the proof: the condition's number is below 2 to its width.
     let _condition = sized(t, condition);
     if w == 1 && one_a && zero_b {
         Form::Old(condition)

@@ -190,6 +190,7 @@ fn limit_joined(t: &Terms, a: TermId, n: u64, x: TermId, y: TermId) -> Limit
     ensures number { result.number ≤ 2 ^ width t.now result.of }
     ensures limit { (v : Reading) → nat_lt (value t.now result.of v) result.number ≡ nat_lt (value t.now a v) n }
 {
+    // For the proof: the upper term's width is from 1 to 64, and its number below 2 to it.
     let _w = sized(t, x);
     let u = sized(t, y);
     let parts = parts_of(n, u);

@@ -171,6 +171,7 @@ pub(crate) fn operand(t: &Terms, kind: UnaryKind, a: TermId) -> Option<TermId>
 {
     match t.node(a) {
         Node::Unary { kind: of, a: x } if *of == kind => {
+            // For the proof: the operand's number is below 2 to its width.
             let _w = sized(t, *x);
             Some(*x)
         }
@@ -187,6 +188,7 @@ pub(crate) fn are_complements(t: &Terms, a: TermId, b: TermId) -> bool
     ensures width { IsWidth (width t.now a) }
     ensures below { (v : Reading) → value t.now a v < 2 ^ width t.now a }
 {
+    // For the proof: the first term's width is from 1 to 64, and its number below 2 to it.
     let _w = sized(t, a);
     is_complement(t, b, a) || is_complement(t, a, b)
 }
@@ -198,6 +200,7 @@ fn is_complement(t: &Terms, a: TermId, b: TermId) -> bool
     ensures known { IsTrue result → (v : Reading) → value t.now b v ≡ unary_value UnaryKind.Not (width t.now a) (value t.now a v) }
     ensures back { IsTrue result → (v : Reading) → value t.now a v ≡ unary_value UnaryKind.Not (width t.now a) (value t.now b v) }
 {
+    // For the proof: the first term's number is below 2 to its width.
     let _w = sized(t, a);
     operand(t, UnaryKind::Not, a) == Some(b)
 }

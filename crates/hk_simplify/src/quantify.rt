@@ -43,6 +43,7 @@ fn is_settled(t: &Terms, bound: &[Bound], body: TermId) -> bool
     requires some { list_any (λ b. nat_eq b.size 0) bound.now ≡ false }
     ensures { IsTrue result → (v : Reading) → value t.now body v ≡ bit (every_tuple bound.now (λ u. nat_eq (value t.now body u) 1) v) }
 {
+    // For the proof: the body's number is below 2 to its width.
     let _w = sized(t, body);
     match constant(t, body) {
         Some(_) => true,

@@ -137,6 +137,7 @@ fn extract_form(t: &Terms, high: u32, low: u32, a: TermId) -> Form
     ensures width { form_width t.now result ≡ suc high - low }
     ensures value { (v : Reading) → form_value t.now result v ≡ resize_value (TermResize.Extract low) (width t.now a) (suc high - low) (value t.now a v) }
 {
+    // For the proof: the term's width is from 1 to 64, and its number below 2 to it.
     let _w = sized(t, a);
     let to = high - low + 1;
     bits_form(t, to, low, a)
@@ -422,6 +423,7 @@ fn extraction(t: &Terms, a: TermId, w: u32, kind: TermResize, x: TermId) -> Part
     ensures is_width { IsWidth (width t.now result.of) }
     ensures value { (v : Reading) → value t.now a v ≡ value t.now result.of v / 2 ^ result.low % 2 ^ width t.now a }
 {
+    // For the proof: the part's width is from 1 to 64, and its number below 2 to it.
     let _u = sized(t, x);
     match kind {
         TermResize::Extract { low } => Part { low, of: x },

@@ -56,6 +56,7 @@ pub(crate) fn sum_of(t: &Terms, a: TermId) -> Sum
     ensures below { (v : Reading) → value t.now result.of v < 2 ^ width t.now a }
     ensures value { (v : Reading) → value t.now a v ≡ bvadd (width t.now a) (value t.now result.of v) result.number }
 {
+    // For the proof: the sum's width is from 1 to 64, and its number below 2 to it.
     let _w = sized(t, a);
     match summed(t, a) {
         Some(parts) => sum_with(t, a, parts.first, parts.second),
@@ -76,6 +77,7 @@ fn sum_with(t: &Terms, a: TermId, x: TermId, y: TermId) -> Sum
     ensures below { (v : Reading) → value t.now result.of v < 2 ^ width t.now a }
     ensures value { (v : Reading) → value t.now a v ≡ bvadd (width t.now a) (value t.now result.of v) result.number }
 {
+    // For the proof: the first part's number is below 2 to its width.
     let _w = sized(t, x);
     match constant(t, y) {
         Some(number) => Sum { of: x, number },
@@ -161,6 +163,7 @@ pub(crate) fn rest_of(t: &Terms, a: TermId, b: TermId) -> Option<TermId>
     ensures value { IfSome result (λ x. (v : Reading) → value t.now x v ≡ binary_value TermKind.Sub (width t.now a) (width t.now b) (value t.now a v) (value t.now b v)) }
 {
     let parts = summed(t, a)?;
+    // For the proof: the numbers of both parts are below 2 to their widths.
     let _first = sized(t, parts.first);
     let _second = sized(t, parts.second);
     if parts.second == b {

@@ -116,6 +116,7 @@ pub fn size_of<R: InitialReads>(
     ensures word { IfOk result (λ r. IsWord t.new 64 r) }
     ensures value { IfOk result (λ r. (v : Reading) → value t.new r v ≡ sized (memory_at t.old memory.now v) (value t.old base v)) }
 {
+    // For the proof: the clauses alone speak of the memory.
     let _memory = memory;
     let made = laid_size(t, layout, base)?;
     Ok(made)

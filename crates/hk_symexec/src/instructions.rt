@@ -41,6 +41,7 @@ fn unreachable<R: InitialReads>(
         Tracks P f (seen t.old v x) (memory_at t.old memory.now v) (λ rs m. Stops (Stuck u.U4 line)) e →
         Tracks P f (seen t.new v y) (memory_at t.new memory.now v) go e) }
 {
+    // For the proof: the clauses alone speak of the memory.
     let _memory = memory;
     let always = truths::constant(t, true)?;
     let made = settle_passes(t, x, always)?;

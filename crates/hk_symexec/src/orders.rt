@@ -39,6 +39,7 @@ pub(crate) fn depth_of(checked: &Checked, function: u32) -> u32
     requires { function < length checked.now.functions }
     ensures { IsDepth (view_module checked.now) function result }
 {
+    // For the proof: the module is checked, so an expanded length is at most 100,000.
     let _module = checked.module();
     checked.expanded(function) + 1
 }

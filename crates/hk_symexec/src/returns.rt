@@ -82,6 +82,7 @@ fn return_nothing<R: InitialReads>(
         Tracks P f (seen t.old v x) (memory_at t.old memory.now v) (λ rs m. on_return line rs m None) e →
         Tracks P f (seen t.new v y) (memory_at t.new memory.now v) go e) }
 {
+    // For the proof: the clauses alone speak of the memory.
     let _memory = memory;
     let made = come_back(t, x)?;
     Ok(made)

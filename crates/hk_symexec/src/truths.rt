@@ -29,6 +29,7 @@ pub(crate) fn not(t: &mut Terms, a: TermId) -> Result<TermId, AllocError>
     ensures truth { IfOk result (λ r. IsTruth t.new r) }
     ensures value { IfOk result (λ r. (v : Reading) → is_true t.new r v ≡ not (is_true t.old a v)) }
 {
+    // For the proof: the truth's number is below 2 to its width.
     let _node = t.node(a);
     let made = hk_simplify::not(t, a)?;
     Ok(made)
@@ -42,6 +43,7 @@ pub(crate) fn and(t: &mut Terms, a: TermId, b: TermId) -> Result<TermId, AllocEr
     ensures truth { IfOk result (λ r. IsTruth t.new r) }
     ensures value { IfOk result (λ r. (v : Reading) → is_true t.new r v ≡ (is_true t.old a v && is_true t.old b v)) }
 {
+    // For the proof: the numbers of both truths are below 2 to their widths.
     let _first = t.node(a);
     let _second = t.node(b);
     let made = hk_simplify::and(t, a, b)?;
@@ -56,6 +58,7 @@ pub(crate) fn or(t: &mut Terms, a: TermId, b: TermId) -> Result<TermId, AllocErr
     ensures truth { IfOk result (λ r. IsTruth t.new r) }
     ensures value { IfOk result (λ r. (v : Reading) → is_true t.new r v ≡ (is_true t.old a v || is_true t.old b v)) }
 {
+    // For the proof: the numbers of both truths are below 2 to their widths.
     let _first = t.node(a);
     let _second = t.node(b);
     let made = hk_simplify::or(t, a, b)?;
@@ -69,6 +72,7 @@ fn sized(t: &Terms, a: TermId) -> u32
     ensures is_width { IsWidth result }
     ensures below { (v : Reading) → value t.now a v < 2 ^ result }
 {
+    // For the proof: the term's numbers are below 2 to its width.
     let _node = t.node(a);
     t.width(a)
 }

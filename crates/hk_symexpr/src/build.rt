@@ -363,6 +363,7 @@ fn all_hold<R: SymReads>(
     'each: for e in items {
         let now = known.as_slice();
         let next = term_knowing(alloc, t, reads, names, now, e)?;
+        // For the proof: the next truth's number is below 2 to its width.
         let _next = sized(t, next);
         made = both(t, made, next)?;
         learn(t, next, &mut known)?;

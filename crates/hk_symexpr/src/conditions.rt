@@ -64,6 +64,7 @@ fn conjuncts(t: &Terms, condition: TermId) -> Option<(TermId, TermId)>
             a,
             b,
         } => {
+            // For the proof: the numbers of both parts are below 2 to their widths.
             let _a = sized(t, *a);
             let _b = sized(t, *b);
             Some((*a, *b))
@@ -106,6 +107,7 @@ fn note(t: &Terms, term: TermId, most: u64, known: &mut Vec<Limit>) -> Result<()
     ensures known { All (λ l. l.term < length t.now) known.new.items }
     ensures holds { (v : Reading) → value t.now term v ≤ most → AreLimited t.now known.old.items v → AreLimited t.now known.new.items v }
 {
+    // For the proof: the clauses alone speak of the list.
     let _list = t;
     known.push(Limit { term, most })?;
     Ok(())

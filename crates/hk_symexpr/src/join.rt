@@ -37,6 +37,7 @@ pub(crate) fn constant(
     ensures term { IfOk result (λ r. (base : Reading → Source) (c : Context) (old : List Node) → IsTermOf base (context_of c (scope_of names.now)) old (scope_of names.now) t.new r (plain.constant width n)) }
     ensures keeps { Keeps t.old t.new }
 {
+    // For the proof: the clauses alone speak of the names.
     let _names = names;
     let made = ops::number(t, width, n)?;
     Ok(made)
@@ -54,6 +55,7 @@ pub(crate) fn unary(
     ensures term { IfOk result (λ r. (base : Reading → Source) (c : Context) (old : List Node) (e : Tree) → IsTermOf base (context_of c (scope_of names.now)) old (scope_of names.now) t.old a e → IsTermOf base (context_of c (scope_of names.now)) old (scope_of names.now) t.new r (plain.unary kind e)) }
     ensures keeps { Keeps t.old t.new }
 {
+    // For the proof: the clauses alone speak of the names.
     let _names = names;
     let made = operators::unary(t, kind, a)?;
     Ok(made)
@@ -74,6 +76,7 @@ pub(crate) fn binary(
     ensures term { IfOk result (λ r. (base : Reading → Source) (c : Context) (old : List Node) (e f : Tree) → IsTermOf base (context_of c (scope_of names.now)) old (scope_of names.now) t.old a e → IsTermOf base (context_of c (scope_of names.now)) old (scope_of names.now) t.old b f → IsTermOf base (context_of c (scope_of names.now)) old (scope_of names.now) t.new r (plain.binary kind e f)) }
     ensures keeps { Keeps t.old t.new }
 {
+    // For the proof: the clauses alone speak of the names.
     let _names = names;
     let made = operators::binary(t, kind, a, b)?;
     Ok(made)
@@ -91,6 +94,7 @@ pub(crate) fn resized(
     ensures term { IfOk result (λ r. (base : Reading → Source) (c : Context) (old : List Node) (e : Tree) → IsTermOf base (context_of c (scope_of names.now)) old (scope_of names.now) t.old a e → IsTermOf base (context_of c (scope_of names.now)) old (scope_of names.now) t.new r (plain.resize kind e)) }
     ensures keeps { Keeps t.old t.new }
 {
+    // For the proof: the clauses alone speak of the names.
     let _names = names;
     let made = operators::resize(t, kind, a)?;
     Ok(made)
@@ -112,7 +116,9 @@ pub(crate) fn choice(
     ensures term { IfOk result (λ r. (base : Reading → Source) (c : Context) (old : List Node) (d e f : Tree) → IsTermOf base (context_of c (scope_of names.now)) old (scope_of names.now) t.old test d → IsTermWhere base (context_of c (scope_of names.now)) old (scope_of names.now) t.old test t.old a e → IsTermOf base (context_of c (scope_of names.now)) old (scope_of names.now) t.old b f → IsTermOf base (context_of c (scope_of names.now)) old (scope_of names.now) t.new r (plain.choose d e f)) }
     ensures keeps { Keeps t.old t.new }
 {
+    // For the proof: the clauses alone speak of the names.
     let _names = names;
+    // For the proof: the test's number is below 2 to its width.
     let _test = ops::sized(t, test);
     let made = ops::choose(t, test, a, b)?;
     Ok(made)
@@ -132,7 +138,9 @@ pub(crate) fn implied(
     ensures term { IfOk result (λ r. (base : Reading → Source) (c : Context) (old : List Node) (e f : Tree) → IsTermOf base (context_of c (scope_of names.now)) old (scope_of names.now) t.old a e → IsTermWhere base (context_of c (scope_of names.now)) old (scope_of names.now) t.old a t.old b f → IsTermOf base (context_of c (scope_of names.now)) old (scope_of names.now) t.new r (plain.binary BinKind.Implies e f)) }
     ensures keeps { Keeps t.old t.new }
 {
+    // For the proof: the clauses alone speak of the names.
     let _names = names;
+    // For the proof: the numbers of both truths are below 2 to their widths.
     let _a = ops::sized(t, a);
     let _b = ops::sized(t, b);
     let made = operators::binary(t, BinKind::Implies, a, b)?;
@@ -212,6 +220,7 @@ pub(crate) fn entry<R: SymReads>(
         AreLimitsOf base (context_of (R.named reads.now) (scope_of names.now)) old (scope_of names.now) t.old index.now at → IsTermOf base (context_of (R.named reads.now) (scope_of names.now)) old (scope_of names.now) t.new r (plain.entry name field at)) }
     ensures keeps { Keeps t.old t.new }
 {
+    // For the proof: the clauses alone speak of the names.
     let _names = names;
     let made = reads.entry(alloc, t, name, field, index)?;
     Ok(made)
@@ -239,6 +248,7 @@ pub(crate) fn path<R: SymReads>(
 {
     lasting(t, reads, names);
     let lead = lead_of(t, base, steps, index)?;
+    // For the proof: the offset's number is below 2 to its width.
     let _offset = ops::sized(t, lead.offset);
     let made = load_at(alloc, t, reads, object, bytes, lead)?;
     Ok(made)

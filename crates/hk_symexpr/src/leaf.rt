@@ -33,6 +33,7 @@ pub(crate) fn argument(t: &Terms, names: &Names, k: u32) -> TermId
     requires there { k < length names.now.args.now }
     ensures { (source : Reading → Source) (c : Context) → IsTermOf source (context_of c (scope_of names.now)) t.now (scope_of names.now) t.now result (plain.argument k) }
 {
+    // For the proof: the clauses alone speak of the list.
     let _list = t;
     named_at(names.args, k)
 }
@@ -43,6 +44,7 @@ pub(crate) fn local(t: &Terms, names: &Names, k: u32) -> TermId
     requires there { k < length names.now.locals.now }
     ensures { (source : Reading → Source) (c : Context) → IsTermOf source (context_of c (scope_of names.now)) t.now (scope_of names.now) t.now result (plain.local k) }
 {
+    // For the proof: the clauses alone speak of the list.
     let _list = t;
     named_at(names.locals, k)
 }

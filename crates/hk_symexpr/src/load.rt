@@ -32,6 +32,7 @@ pub(crate) fn lasting<R: SymReads>(t: &Terms, reads: &R, names: &Names)
         Lasts base old (R.source reads.now t.now) t.now (scope_of names.now) → Lasts base old (R.source reads.now new) new (scope_of names.now) }
     ensures here { Lasts (R.source reads.now t.now) t.now (R.source reads.now t.now) t.now (scope_of names.now) }
 {
+    // For the proof: the clauses alone speak of the list, of what is read and of the names.
     let _list = t;
     let _reads = reads;
     let _names = names;
@@ -43,6 +44,7 @@ pub(crate) fn ready_where<R: SymReads>(t: &Terms, reads: &R, names: &Names, know
     requires known { All (λ l. l.term < length t.now) known.now }
     ensures { Ready (R.named reads.now) (R.limit reads.now) t.now (knowing (scope_of names.now) known.now) }
 {
+    // For the proof: the clauses alone speak of the list, of what is read, of the names and of what is known.
     let _list = t;
     let _reads = reads;
     let _names = names;
@@ -66,6 +68,7 @@ pub(crate) fn ready_behind<R: SymReads>(
     ensures sorted { IsSorted (context_of (R.named reads.now) (record (scope_of names.now) { sizes = all.now })) (view_expr e.now) }
     ensures ids { names.now.base + length names.now.sizes.now + length sizes.now < 2 ^ 32 }
 {
+    // For the proof: the clauses alone speak of the list, of what is read, of the names, of the sizes and of the expression.
     let _list = t;
     let _reads = reads;
     let _names = names;
@@ -85,6 +88,7 @@ pub(crate) fn sorted_indices<R: SymReads>(
     requires { IsSorted (context_of (R.named reads.now) (scope_of names.now)) (plain.entry name field (view_expr_list at.now)) }
     ensures { AreSorted (context_of (R.named reads.now) (scope_of names.now)) (view_expr_list at.now) }
 {
+    // For the proof: the clauses alone speak of what is read, of the names, and of the entry's state, field and indices.
     let _reads = reads;
     let _names = names;
     let _name = name;
@@ -142,6 +146,7 @@ pub(crate) fn load_at<R: SymReads>(
         value t.new r v ≡ (if holds (value t.old lead.inside v) then load (slice_index_or (R.source reads.now t.old v).memory object []) (value t.old lead.offset v) bytes else 0)) }
     ensures keeps { Keeps t.old t.new }
 {
+    // For the proof: the number of the truth `inside` is below 2 to its width.
     let _inside = sized(t, lead.inside);
     let there = loaded(alloc, t, reads, object, lead.offset, bytes)?;
     let width = sized(t, there);

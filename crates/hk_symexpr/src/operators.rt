@@ -22,6 +22,7 @@ pub(crate) fn unary(t: &mut Terms, kind: UnKind, a: TermId) -> Result<TermId, Al
     ensures value { IfOk result (λ r. (v : Reading) → value t.new r v ≡ un_value kind (width t.old a) (value t.old a v)) }
     ensures keeps { Keeps t.old t.new }
 {
+    // For the proof: the operand's width is from 1 to 64, and its number below 2 to it.
     let _a = ops::sized(t, a);
     match kind {
         UnKind::Minus => ops::neg(t, a),
@@ -41,6 +42,7 @@ pub(crate) fn both(t: &mut Terms, a: TermId, b: TermId) -> Result<TermId, AllocE
     ensures value { IfOk result (λ r. (v : Reading) → value t.new r v ≡ bit (holds (value t.old a v) && holds (value t.old b v))) }
     ensures keeps { Keeps t.old t.new }
 {
+    // For the proof: the numbers of both truths are below 2 to their widths.
     let _a = ops::sized(t, a);
     let _b = ops::sized(t, b);
     ops::and(t, a, b)
@@ -57,6 +59,7 @@ pub(crate) fn either(t: &mut Terms, a: TermId, b: TermId) -> Result<TermId, Allo
     ensures value { IfOk result (λ r. (v : Reading) → value t.new r v ≡ bit (holds (value t.old a v) || holds (value t.old b v))) }
     ensures keeps { Keeps t.old t.new }
 {
+    // For the proof: the numbers of both truths are below 2 to their widths.
     let _a = ops::sized(t, a);
     let _b = ops::sized(t, b);
     ops::or(t, a, b)
@@ -71,6 +74,7 @@ pub(crate) fn negation(t: &mut Terms, a: TermId) -> Result<TermId, AllocError>
     ensures value { IfOk result (λ r. (v : Reading) → value t.new r v ≡ bit (not (holds (value t.old a v)))) }
     ensures keeps { Keeps t.old t.new }
 {
+    // For the proof: the truth's number is below 2 to its width.
     let _a = ops::sized(t, a);
     ops::not(t, a)
 }

@@ -16,6 +16,7 @@ pub(crate) fn sized(t: &Terms, a: TermId) -> u32
     ensures is_width { IsWidth result }
     ensures below { (v : Reading) → value t.now a v < 2 ^ result }
 {
+    // For the proof: the term's numbers are below 2 to its width.
     let _node = t.node(a);
     t.width(a)
 }

@@ -80,6 +80,7 @@ fn further(
     ensures value { IfOk result (λ r. (v : Reading) → value t.new r.offset v ≡ (value t.old lead.offset v + value t.old index.term v * stride % 2 ^ 64) % 2 ^ 64) }
     ensures keeps { Keeps t.old t.new }
 {
+    // For the proof: the index's width is from 1 to 64, and its number below 2 to it.
     let _index = sized(t, index.term);
     let wide = zero_extend(t, 64, index.term)?;
     let below = is_below(t, wide, index.most, count)?;

@@ -53,6 +53,7 @@ pub fn every(
     ensures small { (v : Reading) → value t.old body v < 2 }
     ensures keeps { Keeps t.old t.new }
 {
+    // For the proof: the body's number is below 2 to its width.
     let _body = sized(t, body);
     let bounds = variables(alloc, first, sizes)?;
     let made = for_all(t, bounds, body)?;

@@ -45,6 +45,7 @@ pub fn term_of<R: SymReads>(
     ensures over { R.is_over reads.now t.new }
     ensures source { (v : Reading) → R.source reads.now t.new v ≡ R.source reads.now t.old v }
 {
+    // For the proof: the limit of the variables' ids is below 2^32.
     let _limit = reads.limit();
     let made = term(alloc, t, reads, names, e)?;
     Ok(made)

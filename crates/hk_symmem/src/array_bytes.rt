@@ -77,6 +77,7 @@ pub(crate) fn array_number(
     ensures longer { length t.old ≤ length t.new }
     ensures grows { Grows t.old t.new }
 {
+    // For the proof: the size is below 2^64.
     let _size = size;
     let mut made = byte_at(t, array, offset)?;
     for byte in 1..bytes {

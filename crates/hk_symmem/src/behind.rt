@@ -42,6 +42,7 @@ fn whole_behind(
     ensures longer { length t.old ≤ length t.new }
     ensures grows { Grows t.old t.new }
 {
+    // For the proof: the numbers of the guard, of the offset and of the value are below 2 to their widths.
     let _guard = t.node(w.guard);
     let _place = t.node(w.offset);
     let _number = t.node(w.value);

@@ -83,6 +83,7 @@ impl<R: InitialReads> SymMemory<R> {
             bytes,
             value: number,
         };
+        // For the proof: there is a size of the object, and it is below 2^64.
         let _size = size_at(&self.rows, object as usize);
         push_write(&mut self.rows, object as usize, w)
     }
@@ -116,6 +117,7 @@ impl<R: InitialReads> SymMemory<R> {
         if writes.len() == 0 {
             return Ok(found);
         }
+        // For the proof: there is a size of the object, and it is below 2^64.
         let _size = size_at(&self.rows, object as usize);
         let made = behind_all(t, writes, offset, bytes, found)?;
         Ok(made)

@@ -35,6 +35,7 @@ fn behind_byte(
     ensures longer { length t.old ≤ length t.new }
     ensures grows { Grows t.old t.new }
 {
+    // For the proof: the guard's number is below 2 to its width.
     let _guard = t.node(w.guard);
     let part = byte_of(t, w.value, byte)?;
     let there = place_behind(t, w.offset, byte)?;

@@ -133,7 +133,9 @@ pub fn execute_to_result<R: InitialReads>(
     ensures there { IfOk result (λ r. (v : Reading) → HasEnd (view_module kernel.now) function (arguments_at t.old v arguments.now) (memory_at t.old start.now v)) }
     ensures ends { IfOk result (λ r. (v : Reading) (end : RunEnd) → IsEndOfRun (view_module kernel.now) function (arguments_at t.old v arguments.now) (memory_at t.old start.now v) end → TellsEnd t.new v r.undefined r.result r.memory end) }
 {
+    // For the proof: each function of the kernel has an order of its blocks in which edges go forward.
     let _checked = kernel.checked();
+    // For the proof: each node of the list fits behind those before it.
     let _len = t.len();
     look_at_objects(alloc, kernel, layout)?;
     let run = execute(alloc, kernel, layout, function, arguments, start, t)?;

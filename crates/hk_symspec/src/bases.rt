@@ -71,6 +71,7 @@ pub(crate) fn equation_entry<R: InitialReads>(
     ensures longer { length t.old ≤ length t.new }
     ensures grows { Grows t.old t.new }
 {
+    // For the proof: each object has fewer than 2^64 bytes.
     let _objects = objects_are_small(spec);
     let keys = terms_of(alloc, index)?;
     let sizes = sizes_of(alloc, keys_of(spec, field))?;
@@ -103,6 +104,7 @@ fn next_place(t: &mut Terms, at: TermId, size: u32, index: TermId) -> Result<Ter
     ensures longer { length t.old ≤ length t.new }
     ensures grows { Grows t.old t.new }
 {
+    // For the proof: the index's width is from 1 to 64.
     let _w = t.width(index);
     let scale = constant(t, 64, u64::from(size))?;
     let high = mul(t, at, scale)?;

@@ -51,6 +51,7 @@ pub(crate) fn body_term<R: SymReads>(
     let mut locals = Vec::new(alloc);
     put_names(alloc, t, reads, &[], &mut locals, base, &body.locals)?;
     let made = formula_term(alloc, t, reads, &[], locals.as_slice(), base, &body.value)?;
+    // For the proof: the truth's number is below 2 to its width.
     let _node = t.node(made);
     Ok(made)
 }

@@ -95,6 +95,7 @@ fn is_below(t: &mut Terms, index: Limit, size: u32) -> Result<TermId, AllocError
     ensures longer { length t.old ≤ length t.new }
     ensures grows { Grows t.old t.new }
 {
+    // For the proof: the index's number is below 2 to its width.
     let _node = t.node(index.term);
     let w = t.width(index.term);
     let most = most_of(w);

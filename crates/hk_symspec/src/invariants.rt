@@ -39,6 +39,7 @@ fn truth_in_memory<R: InitialReads>(
     ensures longer { length t.old ≤ length t.new }
     ensures grows { Grows t.old t.new }
 {
+    // For the proof: each object has fewer than 2^64 bytes.
     let _objects = objects_are_small(spec);
     let reads = KernelReads { spec, memory };
     let made = body_term(alloc, t, &reads, FORMULA_BASE, &named.body)?;

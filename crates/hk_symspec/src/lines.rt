@@ -50,6 +50,7 @@ fn lasting<R: InitialReads>(
         LineReads (view_spec setting.now.spec.now) t.now setting.now.state.now setting.now.args.now setting.now.known.now locals.now writes.now v env →
         LineReads (view_spec setting.now.spec.now) new setting.now.state.now setting.now.args.now setting.now.known.now locals.now writes.now v env }
 {
+    // For the proof: the clauses alone speak of the list, of the setting, of the local names and of the writes.
     let _list = t;
     let _setting = setting;
     let _locals = locals;
@@ -79,6 +80,7 @@ pub(crate) fn line_term<R: InitialReads>(
         LineReads (view_spec setting.now.spec.now) t.old setting.now.state.now setting.now.args.now setting.now.known.now locals.now writes.now v env →
         LineReads (view_spec setting.now.spec.now) t.new setting.now.state.now setting.now.args.now setting.now.known.now locals.now writes.now v env) }
 {
+    // For the proof: each object has fewer than 2^64 bytes.
     let _objects = objects_are_small(setting.spec);
     lasting(t, setting, locals, writes);
     let reads = StateReads {

@@ -86,6 +86,7 @@ fn behind_write(
     if w.field != field {
         return Ok(found);
     }
+    // For the proof: the guard's number is below 2 to its width.
     let _guard = t.node(w.guard);
     let hit = is_hit(t, keys_of(spec, field), w.guard, w.index.as_slice(), index)?;
     let made = choose(t, hit, w.value, found)?;

@@ -67,6 +67,7 @@ impl<R: InitialReads> SymAbstract<R> {
         ensures longer { length t.old ≤ length t.new }
         ensures grows { Grows t.old t.new }
     {
+        // For the proof: each object has fewer than 2^64 bytes.
         let _objects = objects_are_small(spec);
         let reads = KernelReads { spec, memory };
         let mut locals = Vec::new(alloc);
@@ -98,6 +99,7 @@ impl<R: InitialReads> SymAbstract<R> {
         ensures value { (nodes : List Node) (v : Reading) → state_at (view_spec spec.now) nodes result v ≡ free_state first (field_sorts (view_spec spec.now)) v.entry }
         ensures steady { (limit : ℕ) (nodes : List Node) (v : Reading) → IsSteady limit (view_spec spec.now) nodes result v }
     {
+        // For the proof: the clauses alone speak of the specification's fields.
         let _fields = spec.fields.as_slice();
         SymAbstract {
             memory: None,
@@ -158,6 +160,7 @@ fn limit_of(t: &Terms, term: TermId) -> Limit
     ensures term { result.term ≡ term }
     ensures most { (v : Reading) → value t.now term v ≤ result.most }
 {
+    // For the proof: the term's numbers are below 2 to its width.
     let _node = t.node(term);
     Limit {
         term,

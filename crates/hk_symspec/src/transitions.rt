@@ -161,6 +161,7 @@ fn end_of<R: InitialReads>(
     let locals = walked.locals.as_slice();
     let writes = walked.writes.as_slice();
     let valid = line_term(alloc, t, setting, locals, writes, &transition.valid)?;
+    // For the proof: the number of the truth `valid` is below 2 to its width.
     let _node = t.node(valid);
     let number = result_term(
         alloc,

@@ -271,6 +271,7 @@ fn step_at(
     ensures value { IfOk result (λ r. (v : Reading) → meaning t.new r v ≡ step_of inbounds (value t.old size v) w each (meaning t.old index v) (meaning t.old from v)) }
 {
     let bits = index.bits;
+    // For the proof: the size's number is below 2 to its width.
     let _size = sized(t, size);
     let bad = is_no_index(t, w, index)?;
     let m = moved(t, w, each, bits)?;

@@ -30,6 +30,7 @@ pub fn not(t: &mut Terms, a: TermId) -> Result<TermId, AllocError>
     ensures truth { IfOk result (λ r. IsTruth t.new r) }
     ensures value { IfOk result (λ r. (v : Reading) → is_true t.new r v ≡ not (is_true t.old a v)) }
 {
+    // For the proof: the truth's number is below 2 to its width.
     let _node = t.node(a);
     let made = hk_simplify::not(t, a)?;
     Ok(made)
@@ -43,6 +44,7 @@ pub fn and(t: &mut Terms, a: TermId, b: TermId) -> Result<TermId, AllocError>
     ensures truth { IfOk result (λ r. IsTruth t.new r) }
     ensures value { IfOk result (λ r. (v : Reading) → is_true t.new r v ≡ (is_true t.old a v && is_true t.old b v)) }
 {
+    // For the proof: the numbers of both truths are below 2 to their widths.
     let _first = t.node(a);
     let _second = t.node(b);
     let made = hk_simplify::and(t, a, b)?;
@@ -57,6 +59,7 @@ pub fn or(t: &mut Terms, a: TermId, b: TermId) -> Result<TermId, AllocError>
     ensures truth { IfOk result (λ r. IsTruth t.new r) }
     ensures value { IfOk result (λ r. (v : Reading) → is_true t.new r v ≡ (is_true t.old a v || is_true t.old b v)) }
 {
+    // For the proof: the numbers of both truths are below 2 to their widths.
     let _first = t.node(a);
     let _second = t.node(b);
     let made = hk_simplify::or(t, a, b)?;
@@ -123,6 +126,7 @@ pub fn differ(t: &mut Terms, a: TermId, b: TermId) -> Result<TermId, AllocError>
     ensures truth { IfOk result (λ r. IsTruth t.new r) }
     ensures value { IfOk result (λ r. (v : Reading) → is_true t.new r v ≡ differ (is_true t.old a v) (is_true t.old b v)) }
 {
+    // For the proof: the numbers of both truths are below 2 to their widths.
     let _first = t.node(a);
     let _second = t.node(b);
     let made = hk_simplify::xor(t, a, b)?;

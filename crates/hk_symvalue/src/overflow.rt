@@ -105,6 +105,7 @@ fn carries(t: &mut Terms, a: TermId, b: TermId) -> Result<TermId, AllocError>
     ensures truth { IfOk result (λ r. IsTruth t.new r) }
     ensures value { IfOk result (λ r. (v : Reading) → is_true t.new r v ≡ bvuaddo (width t.old a) (value t.old a v) (value t.old b v)) }
 {
+    // For the proof: the numbers of both terms are below 2 to their widths.
     let _first = sized(t, a);
     let _second = sized(t, b);
     let sum = sum(t, a, b)?;
@@ -120,6 +121,7 @@ fn sum_overflows(t: &mut Terms, a: TermId, b: TermId) -> Result<TermId, AllocErr
     ensures truth { IfOk result (λ r. IsTruth t.new r) }
     ensures value { IfOk result (λ r. (v : Reading) → is_true t.new r v ≡ bvsaddo (width t.old a) (value t.old a v) (value t.old b v)) }
 {
+    // For the proof: the terms' width is from 1 to 64, and the numbers of both below 2 to it.
     let _first = sized(t, a);
     let _second = sized(t, b);
     let sum = sum(t, a, b)?;
@@ -153,6 +155,7 @@ fn difference_overflows(t: &mut Terms, a: TermId, b: TermId) -> Result<TermId, A
     ensures truth { IfOk result (λ r. IsTruth t.new r) }
     ensures value { IfOk result (λ r. (v : Reading) → is_true t.new r v ≡ bvssubo (width t.old a) (value t.old a v) (value t.old b v)) }
 {
+    // For the proof: the terms' width is from 1 to 64, and the numbers of both below 2 to it.
     let _first = sized(t, a);
     let _second = sized(t, b);
     let difference = difference(t, a, b)?;
@@ -174,6 +177,7 @@ fn product_carries(t: &mut Terms, a: TermId, b: TermId) -> Result<TermId, AllocE
     ensures value { IfOk result (λ r. (v : Reading) → is_true t.new r v ≡ bvumulo (width t.old a) (value t.old a v) (value t.old b v)) }
 {
     let w = sized(t, a);
+    // For the proof: the second term's number is below 2 to its width.
     let _second = sized(t, b);
     let over = product_exceeds(t, greatest(w), a, b)?;
     Ok(over)
@@ -188,6 +192,7 @@ fn product_overflows(t: &mut Terms, a: TermId, b: TermId) -> Result<TermId, Allo
     ensures value { IfOk result (λ r. (v : Reading) → is_true t.new r v ≡ bvsmulo (width t.old a) (value t.old a v) (value t.old b v)) }
 {
     let w = sized(t, a);
+    // For the proof: the second term's number is below 2 to its width.
     let _second = sized(t, b);
     let x = is_negative(t, a)?;
     let y = is_negative(t, b)?;
@@ -213,6 +218,7 @@ fn magnitudes_exceed(
     ensures truth { IfOk result (λ r. IsTruth t.new r) }
     ensures value { IfOk result (λ r. (v : Reading) → is_true t.new r v ≡ (if is_true t.old turned v then nat_lt (2 ^ (width t.old a - 1)) (unsigned_abs (signed_of (width t.old a) (value t.old a v)) * unsigned_abs (signed_of (width t.old a) (value t.old b v))) else nat_lt (2 ^ (width t.old a - 1) - 1) (unsigned_abs (signed_of (width t.old a) (value t.old a v)) * unsigned_abs (signed_of (width t.old a) (value t.old b v))))) }
 {
+    // For the proof: the width is from 1 to 64, and the first term's number below 2 to it.
     let _first = sized(t, a);
     let least = 1 << (w - 1);
     let x = magnitude(t, a)?;
@@ -301,6 +307,7 @@ fn doubled_exceeds(
     ensures truth { IfOk result (λ r. IsTruth t.new r) }
     ensures value { IfOk result (λ r. (v : Reading) → is_true t.new r v ≡ nat_lt most (value t.old a v * value t.old b v)) }
 {
+    // For the proof: the width is from 1 to 64, and the numbers of both terms below 2 to it.
     let _first = sized(t, a);
     let _second = sized(t, b);
     let x = ops::zero_extend(t, 2 * w, a)?;
@@ -329,6 +336,7 @@ fn divided_exceeds(
     ensures truth { IfOk result (λ r. IsTruth t.new r) }
     ensures value { IfOk result (λ r. (v : Reading) → is_true t.new r v ≡ nat_lt most (value t.old a v * value t.old b v)) }
 {
+    // For the proof: the width is from 1 to 64, and the numbers of both terms below 2 to it.
     let _first = sized(t, a);
     let _second = sized(t, b);
     let product = product(t, a, b)?;
@@ -356,6 +364,7 @@ fn is_lost(
     ensures truth { IfOk result (λ r. IsTruth t.new r) }
     ensures value { IfOk result (λ r. (v : Reading) → is_true t.new r v ≡ (not (nat_eq (value t.old a v) 0) && not (nat_eq (value t.old product v / value t.old a v) (value t.old b v)))) }
 {
+    // For the proof: the width is from 1 to 64, and the first term's number below 2 to it.
     let _first = sized(t, a);
     let none = number(t, w, 0)?;
     let zero = logic::eq(t, a, none)?;

@@ -80,6 +80,7 @@ fn abs(t: &mut Terms, a: TermId, strict: TermId) -> Result<Flagged, AllocError>
     ensures fits { IfOk result (λ r. IsFlagged t.new (width t.old a) r) }
     ensures row { IfOk result (λ r. (v : Reading) → Shown (shown t.new r v) (pair_numbers PairKind.Abs (width t.old a) (value t.old a v) (value t.old strict v))) }
 {
+    // For the proof: the term's width is from 1 to 64, and its number below 2 to it.
     let _w = sized(t, a);
     let least = is_least(t, a)?;
     let bits = magnitude(t, a)?;

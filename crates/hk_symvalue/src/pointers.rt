@@ -22,6 +22,7 @@ pub fn offset_of(t: &mut Terms, a: TermId) -> Result<TermId, AllocError>
     ensures word { IfOk result (λ r. IsWord t.new 64 r) }
     ensures value { IfOk result (λ r. (v : Reading) → value t.new r v ≡ value t.old a v) }
 {
+    // For the proof: the term's width is at most 64, and its number below 2 to it.
     let _u = sized(t, a);
     let made = ops::zero_extend(t, 64, a)?;
     Ok(made)
@@ -32,6 +33,7 @@ pub(crate) fn are_small(t: &Terms, a: TermId)
     requires { a < length t.now }
     ensures { (v : Reading) → value t.now a v < 2 ^ 64 }
 {
+    // For the proof: the term's width is at most 64, and its numbers below 2 to it.
     let _u = sized(t, a);
 }
 
@@ -55,6 +57,7 @@ fn leaves(t: &mut Terms, size: TermId, bytes: u64, x: TermId) -> Result<TermId, 
     ensures truth { IfOk result (λ r. IsTruth t.new r) }
     ensures value { IfOk result (λ r. (v : Reading) → is_true t.new r v ≡ not (nat_le (value t.old x v + bytes) (value t.old size v))) }
 {
+    // For the proof: the size's number is below 2 to its width.
     let _size = sized(t, size);
     let count = number(t, 64, bytes)?;
     let short = logic::ult(t, size, count)?;

@@ -19,6 +19,7 @@ pub fn sized(t: &Terms, a: TermId) -> u32
     ensures is_width { IsWidth result }
     ensures below { (v : Reading) → value t.now a v < 2 ^ result }
 {
+    // For the proof: the term's numbers are below 2 to its width.
     let _node = t.node(a);
     t.width(a)
 }
@@ -78,6 +79,7 @@ fn widened(t: &mut Terms, w: u32, a: TermId) -> Result<TermId, AllocError>
     ensures word { IfOk result (λ r. IsWord t.new w r) }
     ensures value { IfOk result (λ r. (v : Reading) → value t.new r v ≡ value t.old a v % 2 ^ w) }
 {
+    // For the proof: the term's width is from 1 to 64, and its number below 2 to it.
     let _u = sized(t, a);
     let made = ops::zero_extend(t, w, a)?;
     Ok(made)
@@ -123,6 +125,7 @@ fn fits_narrower(t: &mut Terms, w: u32, u: u32, a: TermId) -> Result<TermId, All
     ensures truth { IfOk result (λ r. IsTruth t.new r) }
     ensures value { IfOk result (λ r. (v : Reading) → is_true t.new r v ≡ nat_lt (value t.old a v) (2 ^ w)) }
 {
+    // For the proof: the width u is from 1 to 64, and the term's number below 2 to it.
     let _u = sized(t, a);
     let most = number(t, u, greatest(w))?;
     let over = logic::ult(t, most, a)?;
@@ -149,6 +152,7 @@ pub fn magnitude(t: &mut Terms, a: TermId) -> Result<TermId, AllocError>
     ensures word { IfOk result (λ r. IsWord t.new (width t.old a) r) }
     ensures value { IfOk result (λ r. (v : Reading) → value t.new r v ≡ unsigned_abs (signed_of (width t.old a) (value t.old a v))) }
 {
+    // For the proof: the term's width is from 1 to 64, and its number below 2 to it.
     let _w = sized(t, a);
     let sign = is_negative(t, a)?;
     let negated = ops::neg(t, a)?;
@@ -161,5 +165,6 @@ pub fn bit_of(t: &Terms, a: TermId)
     requires { IsTruth t.now a }
     ensures { (v : Reading) → value t.now a v ≡ truth (is_true t.now a v) }
 {
+    // For the proof: the truth's number is below 2 to its width.
     let _w = sized(t, a);
 }

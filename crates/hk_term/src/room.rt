@@ -87,6 +87,7 @@ impl ValueRoom {
         ensures value { result ≡ value terms.now t (reading_of v.now) }
         ensures room { IsFor terms.now (reading_of v.now) self.new }
     {
+        // For the proof: the list has fewer than 2^63 nodes.
         let _len = terms.len();
         known_or_computed(
             terms,

@@ -99,6 +99,7 @@ fn report_and_save<F: Shelf, O: Sink>(
         let sink : SinkView = record { shown = O.shown out.old; shown' = O.shown out.new; faults = O.faults out.old; faults' = O.faults out.new } in
         ReportsAndSaves view sink (bytes_of words.now) budget (view_module inputs.now.kernel) (view_spec inputs.now.spec) cert.now result }
 {
+    // For the proof: the kernel has a layout of its module.
     let _layout = inputs.kernel.layout();
     let begun = match begin(alloc, inputs) {
         Ok(begun) => begun,

@@ -35,6 +35,7 @@ fn verdict_of(
     ensures shown { IsShownVerdict (view_spec spec.now) result }
     ensures kept { keep ≡ true → HasProofs (view_spec spec.now) (view_transition transition.now) result }
 {
+    // For the proof: the kernel has a layout of its module.
     let _layout = kernel.layout();
     match decide(alloc, kernel, spec, place, budget, keep) {
         Ok(verdict) => verdict,

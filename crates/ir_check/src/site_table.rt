@@ -60,6 +60,7 @@ impl SiteTable {
     pub fn get(&self, name: &Name) -> Option<u32>
         ensures place { result ≡ position (bytes_eq name.now) (names_of self.now) }
     {
+        // For the proof: there are as many registers as the count says, so fewer than 2^32.
         let _count = self.count;
         self.entries.get(name)
     }
@@ -69,6 +70,7 @@ impl SiteTable {
         ensures count { result ≡ length self.now }
         ensures distinct { IsDistinct bytes_eq (names_of self.now) }
     {
+        // For the proof: there are as many registers as the count says, so fewer than 2^32.
         let _count = self.count;
         self.entries.len()
     }

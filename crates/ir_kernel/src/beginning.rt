@@ -12,6 +12,7 @@ use std::alloc::{AllocError, Global};
 pub fn initial_memory(alloc: Global, kernel: &Kernel) -> Result<KMemory, AllocError>
     ensures { IfOk result (λ memory. memory ≡ definition.initial_memory (view_module kernel.now)) }
 {
+    // For the proof: the kernel's module is checked, so its initialisers fit.
     let _checked = kernel.checked();
     KMemory::initial(alloc, kernel.layout())
 }

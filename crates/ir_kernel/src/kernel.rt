@@ -56,6 +56,7 @@ fn look_orders_up(checked: &Checked)
     ensures distinct { IsDistinct bytes_eq (names_of (view_module checked.now).functions) }
 {
     for place in 0..checked.module().functions.len() {
+        // For the proof: the blocks of the function at this place have an order in which edges go forward.
         let _order = checked.order(place);
     }
 }
@@ -99,6 +100,7 @@ impl Kernel {
         ensures ordered { AreOrdered (view_module self.now) }
         ensures distinct { IsDistinct bytes_eq (names_of (view_module self.now).functions) }
     {
+        // For the proof: the module is checked.
         let _module = self.checked.module();
         &self.checked
     }

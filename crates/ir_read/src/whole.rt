@@ -60,6 +60,7 @@ impl Whole {
         requires { AreCounted self.now }
         ensures { result ≡ definition.is_symbol name.now (view_whole self.now) }
     {
+        // For the proof: the count is below 2^32, and so are the numbers of globals and functions.
         let _count = self.count;
         self.globals.get(name).is_some() || self.functions.get(name).is_some()
     }

@@ -64,6 +64,7 @@ pub fn run_from_start(
     requires passed { IsPassed (view_module kernel.now) name.now arguments.now place }
     ensures { IfOk result (λ end. IsEndOfRun (view_module kernel.now) place arguments.now (definition.initial_memory (view_module kernel.now)) (end_of end)) }
 {
+    // For the proof: the kernel's module is checked, and no two of its functions have one name.
     let _checked = kernel.checked();
     let memory = initial_memory(alloc, kernel)?;
     hold_bytes(&memory, kernel.layout().objects());
