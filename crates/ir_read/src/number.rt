@@ -1,29 +1,13 @@
 //! Names that are numbers.
 
-ghost use Rattle.std.specs.Prelude.{◌≡◌, ◌<◌, ◌^◌, ◌-◌, IfOk, bytes_eq, decimal};
+ghost use Rattle.std.specs.Prelude.{◌≡◌, ◌<◌, ◌^◌, ◌-◌, IfOk};
 ghost use Rattle.ir_lex.specs.Items.{number_after, number_behind};
 ghost use Rattle.ir_top.specs.TopView.{view_parameters};
 ghost use Rattle.ir_read.specs.Steps.{first_name};
 
 use ir_ast::{IrType, Name};
-use itoa::Buffer;
+use ir_top::{is_number, number_name};
 use std::alloc::{AllocError, Global};
-
-/// The name that is this number in decimal digits.
-fn number_name(alloc: Global, number: u64) -> Result<Name, AllocError>
-    ensures { IfOk result (λ name. name ≡ decimal number) }
-{
-    let mut buffer = Buffer::new();
-    Name::copy_of(alloc, buffer.format(number).as_bytes())
-}
-
-/// Whether a name is this number in decimal digits.
-fn is_number(name: &Name, number: u64) -> bool
-    ensures { result ≡ bytes_eq name.now (decimal number) }
-{
-    let mut buffer = Buffer::new();
-    name.as_bytes() == buffer.format(number).as_bytes()
-}
 
 /// The number behind a name, which uses this one up where it is the name.
 fn number_after(next: u64, name: &Name) -> u64

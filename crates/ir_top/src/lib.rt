@@ -8,10 +8,12 @@ mod brackets;
 mod inits;
 pub mod item;
 pub mod laws;
+mod number;
 mod parameters;
 mod range;
 mod tops;
 
 pub use item::TopItem;
+pub use number::{is_number, number_name};
 pub use range::read_range;
 pub use tops::read_top;

@@ -1,33 +1,17 @@
 //! The parameters of a function.
 
-ghost use Rattle.std.specs.Prelude.{◌≡◌, ◌<◌, ◌+◌, IfOk, Some, bytes_eq, decimal};
+ghost use Rattle.std.specs.Prelude.{◌≡◌, ◌<◌, ◌+◌, IfOk, Some};
 ghost use Rattle.ir_ast.specs.View.{view_type};
 ghost use Rattle.ir_lex.specs.Items.{number_after};
 ghost use Rattle.ir_part.specs.Reader.{Gives, seen};
 ghost use Rattle.ir_top.specs.Parameters as definition;
 ghost use Rattle.ir_top.specs.TopView.{view_parameters};
 
+use crate::number::{is_number, number_name};
 use ir_ast::{IrType, Name};
 use ir_lex::{Token, TokenKind, sigil_name};
 use ir_part::{PartStop, after_mark, begins_mark, type_at};
-use itoa::Buffer;
 use std::alloc::{AllocError, Global};
-
-/// The name that is this number in decimal digits.
-fn number_name(alloc: Global, number: u64) -> Result<Name, AllocError>
-    ensures { IfOk result (λ name. name ≡ decimal number) }
-{
-    let mut buffer = Buffer::new();
-    Name::copy_of(alloc, buffer.format(number).as_bytes())
-}
-
-/// Whether a name is this number in decimal digits.
-fn is_number(name: &Name, number: u64) -> bool
-    ensures { result ≡ bytes_eq name.now (decimal number) }
-{
-    let mut buffer = Buffer::new();
-    name.as_bytes() == buffer.format(number).as_bytes()
-}
 
 /// The number behind a name, which uses this one up where it is the name. Want of memory where there is none behind it.
 fn number_after(next: u64, name: &Name) -> Result<u64, PartStop>
