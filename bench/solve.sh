@@ -2,8 +2,9 @@
 # Measures the clause-learning solver beside `minisat -no-pre` and `cadical --plain`, where they are installed: random lists with
 # three literals a clause (4.26 clauses a variable), pigeonholes, equivalence of multipliers and of adders, a list of over
 # 100,000 clauses, and each clause file of a folder that is given. Prints for each list the answer, the conflicts and the
-# seconds of user time of each program, and the peak of memory of this one, less what it has before it reads, with the
-# bytes for each given and learned literal, 8 bytes for each hint taken off, where the answer has a log; then the sums.
+# seconds of user time of each program, and the peak of memory of this one, less what it has before it reads; and, where
+# the answer has a log, the bytes of it for each given and learned literal, without the list that is handed in (8 bytes a literal
+# and 8 a clause) and without the hints (8 bytes each); then the sums.
 # The program that reads a clause file and solves it is built in a folder of its own, over the crates as they stand.
 set -eu
 root=$(cd "$(dirname "$0")/.." && pwd)
@@ -243,7 +244,8 @@ own, mini = 0.0, 0.0
 least = started([program])
 for path in paths:
     name = os.path.basename(path)
-    literals = sum(len(line.split()) - 1 for line in open(path) if line[0] not in 'cp')
+    sizes = [len(line.split()) - 1 for line in open(path) if line[0] not in 'cp']
+    literals = sum(sizes)
     minisat = other(['minisat', '-no-pre'], r'conflicts\s*:\s*(\d+)', path)
     cadical = other(['cadical', '--plain'], r'conflicts:\s*(\d+)', path)
     done = timed([program], path)
@@ -253,7 +255,8 @@ for path in paths:
         continue
     word, rows, learned, hints = done[0].split()
     taken = 1024 * max(done[2] - least, 0)
-    each = f', {(taken - 8 * int(hints)) / (literals + int(learned)):.0f} bytes a literal without hints' if int(rows) else ''
+    own_part = taken - 8 * (int(hints) + literals + len(sizes))
+    each = f', {own_part / (literals + int(learned)):.0f} bytes a literal' if int(rows) else ''
     print(f'{name}: {word}, {done[1]:.2f} s, {rows} rows with {learned} literals and {hints} hints, {taken / 2**20:.1f} MiB for {literals} given literals{each}; minisat {show(minisat)}, cadical {show(cadical)}', flush=True)
     if minisat:
         own, mini = own + done[1], mini + minisat[0]

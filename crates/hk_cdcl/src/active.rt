@@ -22,51 +22,53 @@ pub struct Kept {
     activity: u64,
 }
 
-/// Adds to the count at a place.
+/// Adds to the count of a clause.
 fn count(counts: &mut [u64], place: usize, by: u64) {
     if place < counts.len() {
         counts[place] = counts[place].saturating_add(by);
     }
 }
 
-/// Counts the clauses that the row names.
-fn count_hints(counts: &mut [u64], row: &LratRow, by: u64) {
+/// Counts the learned clauses that the row names. Given ones, which stay in any case, have no count.
+fn count_hints(counts: &mut [u64], given: usize, row: &LratRow, by: u64) {
     if let LratRow::Add { hints, .. } = row {
         for hint in hints.as_slice() {
-            count(counts, hint.wrapping_sub(1) as usize, by);
+            if let Some(place) = (*hint as usize).checked_sub(given.saturating_add(1)) {
+                count(counts, place, by);
+            }
         }
     }
 }
 
-/// For each clause of the segment's list how much it was used of late: half of what was known before it, and what its rows
-/// tell. A row at the end weighs twice as much as one at the front.
+/// For each learned clause of the segment's list, in order, how much it was used of late: half of what was known before it, and
+/// what its rows tell. A row at the end weighs twice as much as one at the front.
 fn activities(
     alloc: Global,
     active: &Search,
     given: usize,
     kept: &[Kept],
 ) -> Result<Vec<u64>, AllocError> {
-    let mut counts = vec![in alloc; 0; active.clauses.len()]?;
+    let mut counts = vec![in alloc; 0; active.clauses.len().saturating_sub(given)]?;
     let rows = active.log.as_slice();
-    count_kept(counts.as_mut_slice(), given, kept);
-    let first = active.clauses.len().saturating_sub(rows.len());
-    count_rows(counts.as_mut_slice(), first, rows);
+    count_kept(counts.as_mut_slice(), kept);
+    count_rows(counts.as_mut_slice(), given, rows);
     Ok(counts)
 }
 
-/// Counts half of what was known of the clauses from a place on.
-fn count_kept(counts: &mut [u64], first: usize, kept: &[Kept]) {
+/// Counts half of what was known of the first learned clauses.
+fn count_kept(counts: &mut [u64], kept: &[Kept]) {
     for i in 0..kept.len() {
-        count(counts, first.saturating_add(i), kept[i].activity / 2);
+        count(counts, i, kept[i].activity / 2);
     }
 }
 
-/// Counts the clauses that the rows name, and the rows' own clauses, which stand from a place on.
-fn count_rows(counts: &mut [u64], first: usize, rows: &[LratRow]) {
+/// Counts the learned clauses that the rows name, and the rows' own clauses, which stand last.
+fn count_rows(counts: &mut [u64], given: usize, rows: &[LratRow]) {
+    let first = counts.len().saturating_sub(rows.len());
     let step = USE / (rows.len() as u64).saturating_add(1);
     let mut by = USE;
     for i in 0..rows.len() {
-        count_hints(counts, &rows[i], by);
+        count_hints(counts, given, &rows[i], by);
         count(counts, first.saturating_add(i), by);
         by = by.saturating_add(step);
     }
@@ -89,7 +91,7 @@ fn rank(len: usize, activity: u64) -> u64 {
     u64::MAX - activity / len as u64
 }
 
-/// The places of the learned clauses that stay, as many as there is room for.
+/// Which learned clauses stay, as many as there is room for, counted from the first one, in order.
 fn best(
     alloc: Global,
     active: &Search,
@@ -99,25 +101,27 @@ fn best(
 ) -> Result<Vec<usize>, AllocError> {
     let mut ranks = Vec::new(alloc);
     for place in given..active.clauses.len() {
+        let row = place - given;
         let len = active.clauses.clause(place).len();
-        ranks.push((rank(len, value_at(activities, place)), place))?;
+        ranks.push((rank(len, value_at(activities, row)), row))?;
     }
     ranks.sort_unstable();
     ranks.truncate(room);
-    places_of(alloc, ranks.as_slice())
+    rows_of(alloc, ranks.as_slice())
 }
 
-/// The places, in order.
-fn places_of(alloc: Global, ranks: &[(u64, usize)]) -> Result<Vec<usize>, AllocError> {
-    let mut places = Vec::new(alloc);
+/// The rows, in order.
+fn rows_of(alloc: Global, ranks: &[(u64, usize)]) -> Result<Vec<usize>, AllocError> {
+    let mut rows = Vec::new(alloc);
     for ranked in ranks {
-        places.push(ranked.1)?;
+        rows.push(ranked.1)?;
     }
-    places.sort_unstable();
-    Ok(places)
+    rows.sort_unstable();
+    Ok(rows)
 }
 
-/// The learned clauses of a search that stay, as many as there is room for, by their rows in its log, in order.
+/// The learned clauses of a search that stay, as many as there is room for, by their rows in its log, in order, where its list has
+/// these rows' clauses behind the given ones.
 pub fn choose(
     alloc: Global,
     search: &Search,
@@ -126,12 +130,12 @@ pub fn choose(
     room: usize,
 ) -> Result<Vec<Kept>, AllocError> {
     let activities = activities(alloc, search, given, kept)?;
-    let places = best(alloc, search, activities.as_slice(), given, room)?;
+    let rows = best(alloc, search, activities.as_slice(), given, room)?;
     let mut stay = Vec::new(alloc);
-    for place in places.as_slice() {
+    for row in rows.as_slice() {
         stay.push(Kept {
-            row: place.saturating_sub(given),
-            activity: value_at(activities.as_slice(), *place),
+            row: *row,
+            activity: value_at(activities.as_slice(), *row),
         })?;
     }
     Ok(stay)
