@@ -28,6 +28,17 @@ use ir_layout::KMemory;
 use spec_tree::{Spec, Transition};
 use std::alloc::{AllocError, Global};
 
+/// What the lines of a handler are read against: the kernel with the first bytes of its objects, the specification with the handler's
+/// transition, and of which obligations the cases are few.
+#[derive(Drop)]
+struct Setting<'a> {
+    kernel: &'a Kernel,
+    initial: &'a KMemory,
+    spec: &'a Spec,
+    transition: &'a Transition,
+    wide: Wide,
+}
+
 /// The obligations of a handler. Where a list of the specification has over 2^32 elements, it is want of memory.
 fn owed(alloc: Global, spec: &Spec, transition: &Transition) -> Result<Seq<Obligation>, AllocError>
     ensures { IfOk result (λ list. list ≡ obligations_of (view_spec spec.now) (view_transition transition.now)) }
@@ -77,63 +88,54 @@ fn accepted_at<'t>(
 /// Reads the case of a rejection.
 fn rejected_at<'t>(
     alloc: Global,
-    kernel: &Kernel,
-    initial: &KMemory,
-    spec: &Spec,
-    transition: &Transition,
+    setting: &Setting,
     obligation: Obligation,
     at: At<'t>,
 ) -> Result<(Entry, At<'t>), CertStop>
-    requires { IsWellSorted (view_spec spec.now) }
-    ensures { Gives (λ entry. entry) result (rejected_by (view_module kernel.now) initial.now (view_spec spec.now) (view_transition transition.now) obligation (place_of at.entry)) }
+    requires { IsWellSorted (view_spec setting.now.spec.now) }
+    ensures { Gives (λ entry. entry) result (rejected_by (view_module setting.now.kernel.now) setting.now.initial.now (view_spec setting.now.spec.now) (view_transition setting.now.transition.now) obligation (place_of at.entry)) }
 {
-    let (case, after) = case_at(alloc, kernel, initial, spec, transition, obligation, at)?;
+    let (case, after) = case_at(
+        alloc,
+        setting.kernel,
+        setting.initial,
+        setting.spec,
+        setting.transition,
+        obligation,
+        at,
+    )?;
     Ok((Entry::Reject { obligation, case }, after))
 }
 
 /// Reads what follows the line of a handler, which has this number.
 fn claimed_at<'t>(
     alloc: Global,
-    kernel: &Kernel,
-    initial: &KMemory,
-    spec: &Spec,
-    transition: &Transition,
-    wide: Wide,
+    setting: &Setting,
     owed: &[Obligation],
     line: u32,
     claim: Claim,
     at: At<'t>,
 ) -> Result<(Entry, At<'t>), CertStop>
-    requires { IsWellSorted (view_spec spec.now) }
-    ensures { Gives (λ entry. entry) result (claimed_by (view_module kernel.now) initial.now (wide_for wide) (view_spec spec.now) (view_transition transition.now) owed.now line claim (place_of at.entry)) }
+    requires { IsWellSorted (view_spec setting.now.spec.now) }
+    ensures { Gives (λ entry. entry) result (claimed_by (view_module setting.now.kernel.now) setting.now.initial.now (wide_for setting.now.wide) (view_spec setting.now.spec.now) (view_transition setting.now.transition.now) owed.now line claim (place_of at.entry)) }
 {
     match claim {
-        Claim::Accept => accepted_at(alloc, spec, wide, owed, line, at),
-        Claim::Reject(o) => rejected_at(alloc, kernel, initial, spec, transition, o, at),
+        Claim::Accept => accepted_at(alloc, setting.spec, setting.wide, owed, line, at),
+        Claim::Reject(o) => rejected_at(alloc, setting, o, at),
         Claim::Unknown(o) => Ok((Entry::Unknown(o), at)),
         Claim::Memory => Ok((Entry::Memory, at)),
     }
 }
 
-/// Reads the lines of a handler, of whose obligations the cases are as wide.
-fn entry_at<'t>(
-    alloc: Global,
-    kernel: &Kernel,
-    initial: &KMemory,
-    spec: &Spec,
-    transition: &Transition,
-    wide: Wide,
-    at: At<'t>,
-) -> Result<(Entry, At<'t>), CertStop>
-    requires { IsWellSorted (view_spec spec.now) }
-    ensures { Gives (λ entry. entry) result (entry_by (view_module kernel.now) initial.now (wide_for wide) (view_spec spec.now) (view_transition transition.now) (place_of at.entry)) }
+/// Reads the lines of a handler.
+fn entry_at<'t>(alloc: Global, setting: &Setting, at: At<'t>) -> Result<(Entry, At<'t>), CertStop>
+    requires { IsWellSorted (view_spec setting.now.spec.now) }
+    ensures { Gives (λ entry. entry) result (entry_by (view_module setting.now.kernel.now) setting.now.initial.now (wide_for setting.now.wide) (view_spec setting.now.spec.now) (view_transition setting.now.transition.now) (place_of at.entry)) }
 {
-    let owed = owed(alloc, spec, transition)?;
+    let owed = owed(alloc, setting.spec, setting.transition)?;
     let owed = owed.as_slice();
-    let (claim, after) = claim_line(spec, transition, owed, at)?;
-    claimed_at(
-        alloc, kernel, initial, spec, transition, wide, owed, at.line, claim, after,
-    )
+    let (claim, after) = claim_line(setting.spec, setting.transition, owed, at)?;
+    claimed_at(alloc, setting, owed, at.line, claim, after)
 }
 
 /// Reads the lines of the handler with this place.
@@ -152,7 +154,14 @@ fn handler_at<'t>(
 {
     let transition = &spec.transitions.as_slice()[h as usize];
     let wide = wide_of(kernel, spec, h);
-    entry_at(alloc, kernel, initial, spec, transition, wide, at)
+    let setting = Setting {
+        kernel,
+        initial,
+        spec,
+        transition,
+        wide,
+    };
+    entry_at(alloc, &setting, at)
 }
 
 /// How many handlers there are.

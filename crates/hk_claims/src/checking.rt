@@ -28,6 +28,7 @@ use hk_case::Obligation;
 use hk_cert_text::Entry;
 use hk_check::{Checked, check};
 use hk_cnf::ClauseList;
+use hk_decide::Handler;
 use hk_inst::InstanceList;
 use hk_io::{Sink, SinkFault};
 use hk_lrat::{LratLog, RowReason};
@@ -219,33 +220,37 @@ fn put_kept<O: Sink>(
 /// Checks the acceptance of a handler, puts its line and adds its verdict to the list, which has room for it.
 fn check_acceptance<O: Sink>(
     alloc: Global,
-    kernel: &Kernel,
-    spec: &Spec,
-    place: u32,
-    transition: &Transition,
+    handler: &Handler,
     at: u32,
     proofs: &ProofList,
     verdicts: &mut Vec<Verdict>,
     out: &mut O,
 ) -> Result<(), ClaimStop>
-    requires sorted { IsWellSorted (view_spec spec.now) }
-    requires fits { FitsModule (view_module kernel.now) (view_spec spec.now) }
-    requires there { slice_get (view_spec spec.now).transitions place ≡ Some (view_transition transition.now) }
-    requires fit { (l : LayoutView) → IsLayoutOf (view_module kernel.now) l → Fits l.objects (view_spec spec.now) (view_transition transition.now) (Accept at proofs.now) }
+    requires sorted { IsWellSorted (view_spec handler.now.spec.now) }
+    requires fits { FitsModule (view_module handler.now.kernel.now) (view_spec handler.now.spec.now) }
+    requires there { slice_get (view_spec handler.now.spec.now).transitions handler.now.place ≡ Some (view_transition handler.now.transition.now) }
+    requires fit { (l : LayoutView) → IsLayoutOf (view_module handler.now.kernel.now) l → Fits l.objects (view_spec handler.now.spec.now) (view_transition handler.now.transition.now) (Accept at proofs.now) }
     requires room { vec_len verdicts.old < vec_capacity verdicts.old }
-    ensures added { OnOk result (Adds (view_module kernel.now) (view_spec spec.now) (view_transition transition.now, Accept at proofs.now) verdicts.old.items verdicts.new.items (O.shown out.old) (O.shown out.new)) }
+    ensures added { OnOk result (Adds (view_module handler.now.kernel.now) (view_spec handler.now.spec.now) (view_transition handler.now.transition.now, Accept at proofs.now) verdicts.old.items verdicts.new.items (O.shown out.old) (O.shown out.new)) }
     ensures still { OnOk result (O.faults out.new ≡ O.faults out.old) }
-    ensures stopped { IfErr result (StopsOne (view_module kernel.now) (view_spec spec.now) (view_transition transition.now, Accept at proofs.now) verdicts.old.items verdicts.new.items (O.shown out.old) (O.shown out.new) (O.faults out.old) (O.faults out.new)) }
+    ensures stopped { IfErr result (StopsOne (view_module handler.now.kernel.now) (view_spec handler.now.spec.now) (view_transition handler.now.transition.now, Accept at proofs.now) verdicts.old.items verdicts.new.items (O.shown out.old) (O.shown out.new) (O.faults out.old) (O.faults out.new)) }
     ensures room { vec_capacity verdicts.new ≡ vec_capacity verdicts.old }
     ensures counted { vec_len verdicts.new ≤ vec_len verdicts.old + 1 }
 {
     // For the proof: the kernel has a layout of its module.
-    let _layout = kernel.layout();
-    let kept = match check_one(alloc, kernel, spec, place, at, proofs) {
+    let _layout = handler.kernel.layout();
+    let kept = match check_one(
+        alloc,
+        handler.kernel,
+        handler.spec,
+        handler.place,
+        at,
+        proofs,
+    ) {
         Ok(kept) => kept,
         Err(stop) => return Err(stop),
     };
-    let put = put_kept(out, spec, transition, &kept);
+    let put = put_kept(out, handler.spec, handler.transition, &kept);
     verdicts.push_reserved(kept.verdict);
     match put {
         Ok(()) => Ok(()),
@@ -273,32 +278,29 @@ fn pass<O: Sink>(out: &mut O, transition: &Transition) -> Result<(), ClaimStop>
 /// acceptance.
 fn check_next<O: Sink>(
     alloc: Global,
-    kernel: &Kernel,
-    spec: &Spec,
-    place: u32,
-    transition: &Transition,
+    handler: &Handler,
     entry: &Entry,
     verdicts: &mut Vec<Verdict>,
     out: &mut O,
 ) -> Result<(), ClaimStop>
-    requires sorted { IsWellSorted (view_spec spec.now) }
-    requires fits { FitsModule (view_module kernel.now) (view_spec spec.now) }
-    requires there { slice_get (view_spec spec.now).transitions place ≡ Some (view_transition transition.now) }
-    requires fit { (l : LayoutView) → IsLayoutOf (view_module kernel.now) l → Fits l.objects (view_spec spec.now) (view_transition transition.now) entry.now }
+    requires sorted { IsWellSorted (view_spec handler.now.spec.now) }
+    requires fits { FitsModule (view_module handler.now.kernel.now) (view_spec handler.now.spec.now) }
+    requires there { slice_get (view_spec handler.now.spec.now).transitions handler.now.place ≡ Some (view_transition handler.now.transition.now) }
+    requires fit { (l : LayoutView) → IsLayoutOf (view_module handler.now.kernel.now) l → Fits l.objects (view_spec handler.now.spec.now) (view_transition handler.now.transition.now) entry.now }
     requires room { vec_len verdicts.old < vec_capacity verdicts.old }
-    ensures added { OnOk result (Adds (view_module kernel.now) (view_spec spec.now) (view_transition transition.now, entry.now) verdicts.old.items verdicts.new.items (O.shown out.old) (O.shown out.new)) }
+    ensures added { OnOk result (Adds (view_module handler.now.kernel.now) (view_spec handler.now.spec.now) (view_transition handler.now.transition.now, entry.now) verdicts.old.items verdicts.new.items (O.shown out.old) (O.shown out.new)) }
     ensures still { OnOk result (O.faults out.new ≡ O.faults out.old) }
-    ensures stopped { IfErr result (StopsOne (view_module kernel.now) (view_spec spec.now) (view_transition transition.now, entry.now) verdicts.old.items verdicts.new.items (O.shown out.old) (O.shown out.new) (O.faults out.old) (O.faults out.new)) }
+    ensures stopped { IfErr result (StopsOne (view_module handler.now.kernel.now) (view_spec handler.now.spec.now) (view_transition handler.now.transition.now, entry.now) verdicts.old.items verdicts.new.items (O.shown out.old) (O.shown out.new) (O.faults out.old) (O.faults out.new)) }
     ensures room { vec_capacity verdicts.new ≡ vec_capacity verdicts.old }
     ensures counted { vec_len verdicts.new ≤ vec_len verdicts.old + 1 }
 {
     match entry {
         Entry::Accept { line, proofs } => check_acceptance(
-            alloc, kernel, spec, place, transition, *line, proofs, verdicts, out,
+            alloc, handler, *line, proofs, verdicts, out,
         ),
-        Entry::Reject { .. } => pass(out, transition),
-        Entry::Unknown(_) => pass(out, transition),
-        Entry::Memory => pass(out, transition),
+        Entry::Reject { .. } => pass(out, handler.transition),
+        Entry::Unknown(_) => pass(out, handler.transition),
+        Entry::Memory => pass(out, handler.transition),
     }
 }
 
@@ -331,16 +333,13 @@ pub fn check_claims<O: Sink>(
     let _layout = kernel.layout();
     let transitions = spec.transitions.as_slice();
     'each: for place in 0..transitions.len() {
-        match check_next(
-            alloc,
+        let handler = Handler {
             kernel,
             spec,
-            place as u32,
-            &transitions[place],
-            &entries[place],
-            verdicts,
-            out,
-        ) {
+            place: place as u32,
+            transition: &transitions[place],
+        };
+        match check_next(alloc, &handler, &entries[place], verdicts, out) {
             Ok(()) => {}
             Err(stop) => return Err(stop),
         }

@@ -17,6 +17,7 @@ use crate::lines::{put_confirmed, put_unconfirmed};
 use crate::stop::ClaimStop;
 use hk_case::{Case, Obligation};
 use hk_cert_text::Entry;
+use hk_decide::Handler;
 use hk_exhaust::violates;
 use hk_io::{Sink, SinkFault};
 use ir_kernel::Kernel;
@@ -46,26 +47,30 @@ fn put_mark<O: Sink>(
 /// Runs the case of a rejection and puts its line; tells whether it is not confirmed.
 fn replay_case<O: Sink>(
     alloc: Global,
-    kernel: &Kernel,
-    spec: &Spec,
-    place: u32,
-    transition: &Transition,
+    handler: &Handler,
     obligation: Obligation,
     case: &Case,
     out: &mut O,
 ) -> Result<bool, ClaimStop>
-    requires sorted { IsWellSorted (view_spec spec.now) }
-    requires fits { FitsModule (view_module kernel.now) (view_spec spec.now) }
-    requires there { slice_get (view_spec spec.now).transitions place ≡ Some (view_transition transition.now) }
-    requires fit { (l : LayoutView) → IsLayoutOf (view_module kernel.now) l → Fits l.objects (view_spec spec.now) (view_transition transition.now) (Reject obligation case.now) }
-    ensures said { IfOk result (λ unconfirmed. IsSaid (view_module kernel.now) (view_spec spec.now) (view_transition transition.now, Reject obligation case.now) unconfirmed (O.shown out.old) (O.shown out.new)) }
+    requires sorted { IsWellSorted (view_spec handler.now.spec.now) }
+    requires fits { FitsModule (view_module handler.now.kernel.now) (view_spec handler.now.spec.now) }
+    requires there { slice_get (view_spec handler.now.spec.now).transitions handler.now.place ≡ Some (view_transition handler.now.transition.now) }
+    requires fit { (l : LayoutView) → IsLayoutOf (view_module handler.now.kernel.now) l → Fits l.objects (view_spec handler.now.spec.now) (view_transition handler.now.transition.now) (Reject obligation case.now) }
+    ensures said { IfOk result (λ unconfirmed. IsSaid (view_module handler.now.kernel.now) (view_spec handler.now.spec.now) (view_transition handler.now.transition.now, Reject obligation case.now) unconfirmed (O.shown out.old) (O.shown out.new)) }
     ensures still { OnOk result (O.faults out.new ≡ O.faults out.old) }
-    ensures stopped { IfErr result (StopsOne (view_module kernel.now) (view_spec spec.now) (view_transition transition.now, Reject obligation case.now) (O.shown out.old) (O.shown out.new) (O.faults out.old) (O.faults out.new)) }
+    ensures stopped { IfErr result (StopsOne (view_module handler.now.kernel.now) (view_spec handler.now.spec.now) (view_transition handler.now.transition.now, Reject obligation case.now) (O.shown out.old) (O.shown out.new) (O.faults out.old) (O.faults out.new)) }
 {
     // For the proof: the kernel has a layout of its module.
-    let _layout = kernel.layout();
-    let violated = violates(alloc, kernel, spec, place, obligation, case)?;
-    match put_mark(out, spec, transition, obligation, violated) {
+    let _layout = handler.kernel.layout();
+    let violated = violates(
+        alloc,
+        handler.kernel,
+        handler.spec,
+        handler.place,
+        obligation,
+        case,
+    )?;
+    match put_mark(out, handler.spec, handler.transition, obligation, violated) {
         Ok(()) => Ok(!violated),
         Err(_) => Err(ClaimStop::Write),
     }
@@ -74,32 +79,22 @@ fn replay_case<O: Sink>(
 /// Runs what the certificate says of a handler, where it is a rejection; tells whether it is not confirmed.
 fn replay_next<O: Sink>(
     alloc: Global,
-    kernel: &Kernel,
-    spec: &Spec,
-    place: u32,
-    transition: &Transition,
+    handler: &Handler,
     entry: &Entry,
     out: &mut O,
 ) -> Result<bool, ClaimStop>
-    requires sorted { IsWellSorted (view_spec spec.now) }
-    requires fits { FitsModule (view_module kernel.now) (view_spec spec.now) }
-    requires there { slice_get (view_spec spec.now).transitions place ≡ Some (view_transition transition.now) }
-    requires fit { (l : LayoutView) → IsLayoutOf (view_module kernel.now) l → Fits l.objects (view_spec spec.now) (view_transition transition.now) entry.now }
-    ensures said { IfOk result (λ unconfirmed. IsSaid (view_module kernel.now) (view_spec spec.now) (view_transition transition.now, entry.now) unconfirmed (O.shown out.old) (O.shown out.new)) }
+    requires sorted { IsWellSorted (view_spec handler.now.spec.now) }
+    requires fits { FitsModule (view_module handler.now.kernel.now) (view_spec handler.now.spec.now) }
+    requires there { slice_get (view_spec handler.now.spec.now).transitions handler.now.place ≡ Some (view_transition handler.now.transition.now) }
+    requires fit { (l : LayoutView) → IsLayoutOf (view_module handler.now.kernel.now) l → Fits l.objects (view_spec handler.now.spec.now) (view_transition handler.now.transition.now) entry.now }
+    ensures said { IfOk result (λ unconfirmed. IsSaid (view_module handler.now.kernel.now) (view_spec handler.now.spec.now) (view_transition handler.now.transition.now, entry.now) unconfirmed (O.shown out.old) (O.shown out.new)) }
     ensures still { OnOk result (O.faults out.new ≡ O.faults out.old) }
-    ensures stopped { IfErr result (StopsOne (view_module kernel.now) (view_spec spec.now) (view_transition transition.now, entry.now) (O.shown out.old) (O.shown out.new) (O.faults out.old) (O.faults out.new)) }
+    ensures stopped { IfErr result (StopsOne (view_module handler.now.kernel.now) (view_spec handler.now.spec.now) (view_transition handler.now.transition.now, entry.now) (O.shown out.old) (O.shown out.new) (O.faults out.old) (O.faults out.new)) }
 {
     match entry {
-        Entry::Reject { obligation, case } => replay_case(
-            alloc,
-            kernel,
-            spec,
-            place,
-            transition,
-            *obligation,
-            case,
-            out,
-        ),
+        Entry::Reject { obligation, case } => {
+            replay_case(alloc, handler, *obligation, case, out)
+        },
         Entry::Accept { .. } => Ok(false),
         Entry::Unknown(_) => Ok(false),
         Entry::Memory => Ok(false),
@@ -130,15 +125,13 @@ pub fn replay_claims<O: Sink>(
     let transitions = spec.transitions.as_slice();
     let mut unconfirmed = false;
     'each: for place in 0..transitions.len() {
-        match replay_next(
-            alloc,
+        let handler = Handler {
             kernel,
             spec,
-            place as u32,
-            &transitions[place],
-            &entries[place],
-            out,
-        ) {
+            place: place as u32,
+            transition: &transitions[place],
+        };
+        match replay_next(alloc, &handler, &entries[place], out) {
             Ok(not_confirmed) => unconfirmed |= not_confirmed,
             Err(stop) => return Err(stop),
         }

@@ -7,9 +7,11 @@
 
 mod counted;
 mod found;
+mod handler;
 mod opening;
 mod trying;
 mod verdicts;
 
+pub use handler::Handler;
 pub use opening::open;
 pub use verdicts::decide;

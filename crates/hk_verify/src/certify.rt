@@ -17,6 +17,7 @@ use crate::answer::{Answer, TopFault};
 use crate::inputs::{Inputs, read_inputs};
 use crate::refusal::refuse;
 use crate::verify::{begin, is_faulted, report};
+use crate::words::Certifying;
 use hk_cert_text::write_certificate;
 use hk_io::{SaveFault, Shelf, Sink};
 use std::alloc::Global;
@@ -116,20 +117,17 @@ fn report_and_save<F: Shelf, O: Sink>(
 fn load_and_certify<'x, F: Shelf, O: Sink>(
     alloc: Global,
     words: &'x [String],
-    kernel: &'x str,
-    spec: &'x str,
-    budget: u64,
-    cert: &'x str,
+    asked: &Certifying<'x>,
     shelf: &mut F,
     out: &mut O,
 ) -> Answer
-    requires { 1 ≤ budget }
+    requires { 1 ≤ asked.now.budget }
     ensures { let view : SavingView = record { held = F.held shelf.old; held' = F.held shelf.new; before = F.faults shelf.old; after = F.faults shelf.new } in
         let sink : SinkView = record { shown = O.shown out.old; shown' = O.shown out.new; faults = O.faults out.old; faults' = O.faults out.new } in
-        MeansCertified view sink (bytes_of words.now) kernel.now spec.now budget cert.now result }
+        MeansCertified view sink (bytes_of words.now) asked.now.kernel.now asked.now.spec.now asked.now.budget asked.now.cert.now result }
 {
-    match read_inputs(alloc, shelf, kernel, spec) {
-        Ok(inputs) => report_and_save(alloc, words, &inputs, budget, cert, shelf, out),
+    match read_inputs(alloc, shelf, asked.kernel, asked.spec) {
+        Ok(inputs) => report_and_save(alloc, words, &inputs, asked.budget, asked.cert, shelf, out),
         Err(fault) => refuse(alloc, out, words, fault),
     }
 }
@@ -140,15 +138,12 @@ fn load_and_certify<'x, F: Shelf, O: Sink>(
 pub fn certify<'x, F: Shelf, O: Sink>(
     alloc: Global,
     words: &'x [String],
-    kernel: &'x str,
-    spec: &'x str,
-    budget: u64,
-    cert: &'x str,
+    asked: &Certifying<'x>,
     shelf: &mut F,
     out: &mut O,
 ) -> Answer
-    requires form { IsCertifying (bytes_of words.now) kernel.now spec.now budget cert.now }
-    requires budget { 1 ≤ budget }
+    requires form { IsCertifying (bytes_of words.now) asked.now.kernel.now asked.now.spec.now asked.now.budget asked.now.cert.now }
+    requires budget { 1 ≤ asked.now.budget }
     ensures accepted { AcceptsCorrect (F.held shelf.old) (bytes_of words.now) result }
     ensures rejected { RejectsRefuted (F.held shelf.old) (bytes_of words.now) result }
     ensures unknown { UnknownsSpent (F.held shelf.old) (bytes_of words.now) result }
@@ -157,5 +152,5 @@ pub fn certify<'x, F: Shelf, O: Sink>(
         let sink : SinkView = record { shown = O.shown out.old; shown' = O.shown out.new; faults = O.faults out.old; faults' = O.faults out.new } in
         MeansCertified view sink (bytes_of words.now) kernel_name spec_name conflicts cert_name result }
 {
-    load_and_certify(alloc, words, kernel, spec, budget, cert, shelf, out)
+    load_and_certify(alloc, words, asked, shelf, out)
 }

@@ -19,7 +19,7 @@ ghost use Rattle.hk_verify.specs.Claims.{AreClaimed, Checks, EndsCheck, HasClaim
 use crate::answer::{Answer, TopFault};
 use crate::inputs::{Inputs, SPEC_LIMIT, read_both};
 use crate::kernel::KERNEL_LIMIT;
-use crate::load::load_three;
+use crate::load::{Wanted, load_three};
 use crate::lrat::PROOF_LIMIT;
 use crate::refusal::{refuse, refuse_behind};
 use crate::verify::cut;
@@ -105,16 +105,19 @@ fn read_claimed<F: Shelf>(
     ensures counts { CountsLoads (result_err result) (F.faults shelf.old) (F.faults shelf.new) }
     ensures held { F.held shelf.new ≡ F.held shelf.old }
 {
-    let texts = match load_three(
-        alloc,
-        shelf,
-        kernel,
-        KERNEL_LIMIT,
-        spec,
-        SPEC_LIMIT,
-        cert,
-        PROOF_LIMIT,
-    ) {
+    let kernel = Wanted {
+        name: kernel,
+        limit: KERNEL_LIMIT,
+    };
+    let spec = Wanted {
+        name: spec,
+        limit: SPEC_LIMIT,
+    };
+    let cert = Wanted {
+        name: cert,
+        limit: PROOF_LIMIT,
+    };
+    let texts = match load_three(alloc, shelf, &kernel, &spec, &cert) {
         Ok(texts) => texts,
         Err(fault) => return Err(fault),
     };

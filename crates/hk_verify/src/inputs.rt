@@ -14,7 +14,7 @@ ghost use Rattle.hk_verify.specs.Inputs.{ShelfView, AreRead, CountsLoads, HasCau
 
 use crate::answer::TopFault;
 use crate::kernel::{KERNEL_LIMIT, whole_kernel};
-use crate::load::load_both;
+use crate::load::{Wanted, load_both};
 use hk_io::Shelf;
 use ir_ast::KernelStop;
 use ir_kernel::Kernel;
@@ -96,6 +96,14 @@ pub fn read_inputs<F: Shelf>(
     ensures counts { CountsLoads (result_err result) (F.faults shelf.old) (F.faults shelf.new) }
     ensures held { F.held shelf.new ≡ F.held shelf.old }
 {
-    let texts = load_both(alloc, shelf, kernel, KERNEL_LIMIT, spec, SPEC_LIMIT)?;
+    let kernel = Wanted {
+        name: kernel,
+        limit: KERNEL_LIMIT,
+    };
+    let spec = Wanted {
+        name: spec,
+        limit: SPEC_LIMIT,
+    };
+    let texts = load_both(alloc, shelf, &kernel, &spec)?;
     read_both(alloc, &texts.first, &texts.second)
 }

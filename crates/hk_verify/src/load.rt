@@ -31,21 +31,27 @@ pub struct ThreeTexts {
     pub third: Vec<u8>,
 }
 
-/// Loads the file of a word, of at most `limit` bytes.
+/// A file that is asked for: its name, and how many bytes it may have.
+#[derive(Drop)]
+pub struct Wanted<'x> {
+    pub name: &'x str,
+    pub limit: u32,
+}
+
+/// Loads the file of a word.
 fn load<F: Shelf>(
     alloc: Global,
     shelf: &mut F,
     word: u32,
-    name: &str,
-    limit: u32,
+    wanted: &Wanted,
 ) -> Result<Vec<u8>, TopFault>
-    ensures loaded { IfOk result (λ text. IsLoaded (F.held shelf.old) (asked word name.now limit) text.items) }
+    ensures loaded { IfOk result (λ text. IsLoaded (F.held shelf.old) (asked word wanted.now.name.now wanted.now.limit) text.items) }
     ensures fault { IfErr result
-        (IsLoadFault (seen (F.held shelf.old) (F.faults shelf.old) (F.faults shelf.new)) (asked word name.now limit)) }
+        (IsLoadFault (seen (F.held shelf.old) (F.faults shelf.old) (F.faults shelf.new)) (asked word wanted.now.name.now wanted.now.limit)) }
     ensures counts { CountsLoads (result_err result) (F.faults shelf.old) (F.faults shelf.new) }
     ensures held { F.held shelf.new ≡ F.held shelf.old }
 {
-    match shelf.load(alloc, name, limit) {
+    match shelf.load(alloc, wanted.name, wanted.limit) {
         Ok(text) => Ok(text),
         Err(LoadFault::Failed) => Err(TopFault::Read { word }),
         Err(LoadFault::TooLong) => Err(TopFault::Long { word }),
@@ -53,65 +59,59 @@ fn load<F: Shelf>(
     }
 }
 
-/// Loads the file of the word 1, of at most so many bytes.
+/// Loads the file of the word 1.
 pub fn load_first<F: Shelf>(
     alloc: Global,
     shelf: &mut F,
-    name: &str,
-    limit: u32,
+    first: &Wanted,
 ) -> Result<Vec<u8>, TopFault>
-    ensures loaded { IfOk result (λ text. AreLoaded (F.held shelf.old) (asked 1 name.now limit ∷ []) (text.items ∷ [])) }
-    ensures fault { IfErr result (IsLoadingFault (seen (F.held shelf.old) (F.faults shelf.old) (F.faults shelf.new)) (asked 1 name.now limit ∷ [])) }
+    ensures loaded { IfOk result (λ text. AreLoaded (F.held shelf.old) (asked 1 first.now.name.now first.now.limit ∷ []) (text.items ∷ [])) }
+    ensures fault { IfErr result (IsLoadingFault (seen (F.held shelf.old) (F.faults shelf.old) (F.faults shelf.new)) (asked 1 first.now.name.now first.now.limit ∷ [])) }
     ensures counts { CountsLoads (result_err result) (F.faults shelf.old) (F.faults shelf.new) }
     ensures held { F.held shelf.new ≡ F.held shelf.old }
 {
-    load(alloc, shelf, FIRST_WORD, name, limit)
+    load(alloc, shelf, FIRST_WORD, first)
 }
 
-/// Loads the files of the words 1 and 2, each of at most so many bytes; the second is loaded only behind the first.
+/// Loads the files of the words 1 and 2; the second is loaded only behind the first.
 pub fn load_both<F: Shelf>(
     alloc: Global,
     shelf: &mut F,
-    first: &str,
-    first_limit: u32,
-    second: &str,
-    second_limit: u32,
+    first: &Wanted,
+    second: &Wanted,
 ) -> Result<Texts, TopFault>
     ensures loaded { IfOk result (λ texts. AreLoaded (F.held shelf.old)
-        (asked 1 first.now first_limit ∷ asked 2 second.now second_limit ∷ []) (texts.first.items ∷ texts.second.items ∷ [])) }
+        (asked 1 first.now.name.now first.now.limit ∷ asked 2 second.now.name.now second.now.limit ∷ []) (texts.first.items ∷ texts.second.items ∷ [])) }
     ensures fault { IfErr result (IsLoadingFault (seen (F.held shelf.old) (F.faults shelf.old) (F.faults shelf.new))
-        (asked 1 first.now first_limit ∷ asked 2 second.now second_limit ∷ [])) }
+        (asked 1 first.now.name.now first.now.limit ∷ asked 2 second.now.name.now second.now.limit ∷ [])) }
     ensures counts { CountsLoads (result_err result) (F.faults shelf.old) (F.faults shelf.new) }
     ensures held { F.held shelf.new ≡ F.held shelf.old }
 {
-    let first = load(alloc, shelf, FIRST_WORD, first, first_limit)?;
-    let second = load(alloc, shelf, SECOND_WORD, second, second_limit)?;
+    let first = load(alloc, shelf, FIRST_WORD, first)?;
+    let second = load(alloc, shelf, SECOND_WORD, second)?;
     Ok(Texts { first, second })
 }
 
-/// Loads the files of the words 1 to 3, each of at most so many bytes and only behind the one before it.
+/// Loads the files of the words 1 to 3, each only behind the one before it.
 pub fn load_three<F: Shelf>(
     alloc: Global,
     shelf: &mut F,
-    first: &str,
-    first_limit: u32,
-    second: &str,
-    second_limit: u32,
-    third: &str,
-    third_limit: u32,
+    first: &Wanted,
+    second: &Wanted,
+    third: &Wanted,
 ) -> Result<ThreeTexts, TopFault>
     ensures loaded { IfOk result (λ texts. AreLoaded (F.held shelf.old)
-        (asked 1 first.now first_limit ∷ asked 2 second.now second_limit ∷ asked 3 third.now third_limit ∷ []) (texts.both.first.items ∷ texts.both.second.items ∷ texts.third.items ∷ [])) }
+        (asked 1 first.now.name.now first.now.limit ∷ asked 2 second.now.name.now second.now.limit ∷ asked 3 third.now.name.now third.now.limit ∷ []) (texts.both.first.items ∷ texts.both.second.items ∷ texts.third.items ∷ [])) }
     ensures fault { IfErr result (IsLoadingFault (seen (F.held shelf.old) (F.faults shelf.old) (F.faults shelf.new))
-        (asked 1 first.now first_limit ∷ asked 2 second.now second_limit ∷ asked 3 third.now third_limit ∷ [])) }
+        (asked 1 first.now.name.now first.now.limit ∷ asked 2 second.now.name.now second.now.limit ∷ asked 3 third.now.name.now third.now.limit ∷ [])) }
     ensures counts { CountsLoads (result_err result) (F.faults shelf.old) (F.faults shelf.new) }
     ensures held { F.held shelf.new ≡ F.held shelf.old }
 {
-    let both = match load_both(alloc, shelf, first, first_limit, second, second_limit) {
+    let both = match load_both(alloc, shelf, first, second) {
         Ok(both) => both,
         Err(fault) => return Err(fault),
     };
-    match load(alloc, shelf, THIRD_WORD, third, third_limit) {
+    match load(alloc, shelf, THIRD_WORD, third) {
         Ok(third) => Ok(ThreeTexts { both, third }),
         Err(fault) => Err(fault),
     }

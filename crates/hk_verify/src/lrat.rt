@@ -14,7 +14,7 @@ ghost use Rattle.hk_verify.specs.Words.{bytes_of};
 ghost use Rattle.hk_verify.specs.Lrat.{HasLratCause, IsTried, MeansLrat, ReadsCnf, Tells, proof_fault, proof_status, proof_text};
 
 use crate::answer::{Answer, TopFault};
-use crate::load::load_both;
+use crate::load::{Wanted, load_both};
 use crate::refusal::{refuse, status};
 use hk_claims::row_reason;
 use hk_cnf::{ClauseList, CnfStop, read_dimacs};
@@ -82,7 +82,15 @@ fn try_proof<F: Shelf>(
     ensures counts { CountsLoads (result_err result) (F.faults shelf.old) (F.faults shelf.new) }
     ensures held { F.held shelf.new ≡ F.held shelf.old }
 {
-    let texts = load_both(alloc, shelf, cnf, PROOF_LIMIT, proof, PROOF_LIMIT)?;
+    let cnf = Wanted {
+        name: cnf,
+        limit: PROOF_LIMIT,
+    };
+    let proof = Wanted {
+        name: proof,
+        limit: PROOF_LIMIT,
+    };
+    let texts = load_both(alloc, shelf, &cnf, &proof)?;
     let list = clauses(alloc, &texts.first)?;
     outcome(alloc, &list, &texts.second)
 }

@@ -16,7 +16,7 @@ ghost use Rattle.hk_verify.specs.Runs.{Calls, FaultOf, HasRunCause, IsRan, Means
 
 use crate::answer::{Answer, CallFault, CallReason, TopFault};
 use crate::kernel::{KERNEL_LIMIT, read_whole};
-use crate::load::load_first;
+use crate::load::{Wanted, load_first};
 use crate::refusal::{FUNCTION_WORD, refuse, status};
 use crate::words::numbers_of;
 use hk_io::{Shelf, Sink, SinkFault};
@@ -126,7 +126,11 @@ fn try_run<F: Shelf>(
     ensures counts { CountsLoads (result_err result) (F.faults shelf.old) (F.faults shelf.new) }
     ensures held { F.held shelf.new ≡ F.held shelf.old }
 {
-    let text = load_first(alloc, shelf, kernel, KERNEL_LIMIT)?;
+    let wanted = Wanted {
+        name: kernel,
+        limit: KERNEL_LIMIT,
+    };
+    let text = load_first(alloc, shelf, &wanted)?;
     let kernel = read_whole(alloc, &text)?;
     hold_spelled(&text, &kernel);
     let end = call(alloc, &kernel, function, arguments)?;

@@ -103,8 +103,8 @@ pub fn run_words<F: Shelf, O: Sink>(
     // no file changes but the certificate
     ensures held { IsNotCertifying (bytes_of words.now) → F.held shelf.new ≡ F.held shelf.old }
 {
-    if let Some((kernel, spec, budget, cert)) = behind_certifying(words) {
-        return certify(alloc, words, kernel, spec, budget, cert, shelf, out);
+    if let Some(asked) = behind_certifying(words) {
+        return certify(alloc, words, &asked, shelf, out);
     }
     if let Some((kernel, spec, budget)) = behind_verify(words) {
         return verify(alloc, words, kernel, spec, budget, shelf, out);

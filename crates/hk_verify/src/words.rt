@@ -119,11 +119,20 @@ fn certified(options: &[String]) -> Option<(u64, &str)>
     }
 }
 
-/// The names of the kernel and the specification, the conflicts that a round may take and the name of the certificate, where the words
-/// are those of `verify` with a certificate asked for. It takes no memory.
-pub fn behind_certifying<'x>(words: &'x [String]) -> Option<(&'x str, &'x str, u64, &'x str)>
-    ensures form { IfSome result (λ r. IsCertifying (bytes_of words.now) r.0.now r.1.now r.2 r.3.now) }
-    ensures some { IfSome result (λ r. 1 ≤ r.2) }
+/// What the words of `verify` with a certificate asked for name: the files of the kernel and the specification, the conflicts that a round
+/// may take, and the file of the certificate.
+#[derive(Drop)]
+pub struct Certifying<'x> {
+    pub kernel: &'x str,
+    pub spec: &'x str,
+    pub budget: u64,
+    pub cert: &'x str,
+}
+
+/// What the words name, where they are those of `verify` with a certificate asked for. It takes no memory.
+pub fn behind_certifying<'x>(words: &'x [String]) -> Option<Certifying<'x>>
+    ensures form { IfSome result (λ r. IsCertifying (bytes_of words.now) r.kernel.now r.spec.now r.budget r.cert.now) }
+    ensures some { IfSome result (λ r. 1 ≤ r.budget) }
     ensures none { IfNone result ((kernel spec : List ℕ) (budget : ℕ) (cert : List ℕ) → IsCertifying (bytes_of words.now) kernel spec budget cert → ⊥) }
 {
     match words {
@@ -132,7 +141,12 @@ pub fn behind_certifying<'x>(words: &'x [String]) -> Option<(&'x str, &'x str, u
                 return None;
             }
             match certified(options) {
-                Some((budget, cert)) => Some((kernel.as_str(), spec.as_str(), budget, cert)),
+                Some((budget, cert)) => Some(Certifying {
+                    kernel: kernel.as_str(),
+                    spec: spec.as_str(),
+                    budget,
+                    cert,
+                }),
                 None => None,
             }
         }

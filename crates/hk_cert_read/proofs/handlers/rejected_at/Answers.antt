@@ -15,5 +15,5 @@ returns-in_err-case c =
     let p = err_from_is_err_and c.from_residual.result c.from_residual.ensures.1 in
     rw (p.1, p.2)
     (exit_then (λ (x : Case). x) (λ (x : Entry). x) c.in_err-case.field-0.0
-    (case_at (view_module c.args.kernel.now) c.args.initial.now (view_spec c.args.spec.now) (view_transition c.args.transition.now) c.args.obligation (place_of c.args.at))
+    (case_at (view_module c.args.setting.now.kernel.now) c.args.setting.now.initial.now (view_spec c.args.setting.now.spec.now) (view_transition c.args.setting.now.transition.now) c.args.obligation (place_of c.args.at))
     (λ case q. Ok (Reject c.args.obligation case, q)) c.in_err-case.ensures)

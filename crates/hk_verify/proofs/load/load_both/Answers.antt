@@ -12,5 +12,5 @@ returns-in_err-first-clause-fault g c =
 pub returns-in_err-second-clause-fault : goal.returns-in_err-second-clause-fault
 returns-in_err-second-clause-fault g c =
     let p = err_from_is_err_and c.from_residual-in_err-second.result c.from_residual-in_err-second.ensures.1 in
-    rw p.1 (subst (IsLoadingFault _ _) (sym p.2) (second_fails _ _ _ _ _ (asked 1 c.args.first.now c.args.first_limit) (asked 2 c.args.second.now c.args.second_limit) c.in_ok-first.first.items _
+    rw p.1 (subst (IsLoadingFault _ _) (sym p.2) (second_fails _ _ _ _ _ (asked 1 c.args.first.now.name.now c.args.first.now.limit) (asked 2 c.args.second.now.name.now c.args.second.now.limit) c.in_ok-first.first.items _
     c.load.ensures.held c.in_ok-first.ensures.counts c.in_ok-first.ensures.loaded c.in_err-second.ensures.fault))
