@@ -137,14 +137,22 @@ fn resolve(
     Ok(())
 }
 
+/// The conflict's level.
+#[derive(Clone, Copy)]
+struct Level {
+    /// The places of the trail before it.
+    below: usize,
+    /// Its lowest marked place.
+    lowest: usize,
+}
+
 /// Resolves the literal at a place of the conflict's level, where it is marked. Gives the lowest marked place of the level
 /// then.
 fn resolve_level(
     clauses: &ClauseList,
     trail: &Trail,
-    below: usize,
+    level: Level,
     seen: &mut Seen,
-    lowest: usize,
     place: usize,
     lower: &mut Vec<usize>,
 ) -> Result<usize, AllocError>
@@ -153,18 +161,19 @@ fn resolve_level(
     requires apart { AreApart trail.now.lits }
     requires reason { IsReason clauses.now.clauses trail.now.lits place (slice_index trail.now.reasons place) }
     requires inside { place < length trail.now.lits }
-    requires lowest { IsLowest trail.now.lits below seen.old lowest }
+    requires lowest { IsLowest trail.now.lits level.below seen.old level.lowest }
     ensures len { length seen.new ≡ length seen.old }
-    ensures lowest { IfOk result (IsLowest trail.now.lits below seen.new) }
-    ensures less { IfOk result (λ r. r ≤ lowest) }
+    ensures lowest { IfOk result (IsLowest trail.now.lits level.below seen.new) }
+    ensures less { IfOk result (λ r. r ≤ level.lowest) }
     ensures resolved { OnOk result (Resolved clauses.now.clauses trail.now seen.old seen.new place) }
-    ensures lower { OnOk result (IsTracked trail.now.lits below seen.old lower.old.items → IsTracked trail.now.lits below seen.new lower.new.items) }
+    ensures lower { OnOk result (IsTracked trail.now.lits level.below seen.old lower.old.items → IsTracked trail.now.lits level.below seen.new lower.new.items) }
 {
     if !is_seen(trail, seen, place) {
-        return Ok(lowest);
+        return Ok(level.lowest);
     }
-    resolve(clauses, trail, below, seen, place, lower)?;
-    let least = lowest_of(trail, below, reason_of(clauses, trail, place), lowest);
+    resolve(clauses, trail, level.below, seen, place, lower)?;
+    let reason = reason_of(clauses, trail, place);
+    let least = lowest_of(trail, level.below, reason, level.lowest);
     Ok(least)
 }
 
@@ -191,7 +200,7 @@ fn first_uip(
     let mut place = trail.len();
     while lowest + 1 < place {
         place -= 1;
-        lowest = resolve_level(clauses, trail, below, seen, lowest, place, lower)?;
+        lowest = resolve_level(clauses, trail, Level { below, lowest }, seen, place, lower)?;
     }
     Ok(lowest)
 }

@@ -57,29 +57,27 @@ struct Parts {
     rest: usize,
 }
 
-/// Drops the place where the other marked literals imply its literal, and else adds the negation. Gives the place behind the
-/// last one added.
+/// Drops the place where the other marked literals imply its literal, and else adds the negation.
 fn add_place(
     clauses: &ClauseList,
     trail: &Trail,
     seen: &Seen,
     place: usize,
-    clause: &mut Vec<Lit>,
-    dropped: &mut Vec<usize>,
-    rest: usize,
-) -> Result<usize, AllocError>
+    parts: &mut Parts,
+) -> Result<(), AllocError>
     requires vars { trail.now.vars ≡ clauses.now.vars }
     requires each { length seen.now ≡ trail.now.vars }
     requires named { AreNamed clauses.now.clauses trail.now }
     requires inside { place < length trail.now.lits }
     requires fits { place + 1 < 2 ^ 64 }
-    ensures { IfOk result (SortedAt (is_redundant clauses.now.clauses trail.now seen.now) (neg_ℤ (lit_at trail.now.lits place)) place clause.old.items clause.new.items dropped.old.items dropped.new.items rest) }
+    ensures { OnOk result (SortedAt (is_redundant clauses.now.clauses trail.now seen.now) (neg_ℤ (lit_at trail.now.lits place)) place parts.old.clause.items parts.new.clause.items parts.old.dropped.items parts.new.dropped.items parts.old.rest parts.new.rest) }
 {
     if is_redundant(clauses, trail, seen, place) {
-        dropped.push(place)?;
-        return Ok(rest);
+        parts.dropped.push(place)?;
+        return Ok(());
     }
-    add_kept(trail, place, clause, rest)
+    parts.rest = add_kept(trail, place, &mut parts.clause, parts.rest)?;
+    Ok(())
 }
 
 /// The negations of the literal at the unique implication point and of those at the marked places before the conflict's
@@ -102,25 +100,16 @@ fn collect(
     ensures { IfOk result (λ r. Collected trail.now.lits seen.now (is_redundant clauses.now.clauses trail.now seen.now) below uip r.clause.items r.dropped.items r.rest) }
 {
     let mut clause = Vec::new(alloc);
-    let mut dropped = Vec::new(alloc);
     clause.push(trail.lit(uip).negated())?;
-    let mut rest = 0;
-    for place in lower {
-        rest = add_place(
-            clauses,
-            trail,
-            seen,
-            *place,
-            &mut clause,
-            &mut dropped,
-            rest,
-        )?;
-    }
-    Ok(Parts {
+    let mut parts = Parts {
         clause,
-        dropped,
-        rest,
-    })
+        dropped: Vec::new(alloc),
+        rest: 0,
+    };
+    for place in lower {
+        add_place(clauses, trail, seen, *place, &mut parts)?;
+    }
+    Ok(parts)
 }
 
 /// Adds the id of the reason of the literal at the place, where the places before `next` are done with. Gives the next one.

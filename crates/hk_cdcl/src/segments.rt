@@ -218,7 +218,7 @@ fn segment_of_all(
     Ok(answer_of(found))
 }
 
-/// A segment with this budget: over the whole list as long as all learned clauses stay, which takes no copy of it.
+/// A segment as planned: over the whole list as long as all learned clauses stay, which takes no copy of it.
 fn segment(
     alloc: Global,
     given: usize,
@@ -226,8 +226,7 @@ fn segment(
     active: &mut Search,
     watched: &mut Watched,
     kept: &mut Vec<Kept>,
-    budget: u64,
-    room: usize,
+    plan: Plan,
 ) -> Result<Option<Answer>, AllocError>
     requires inside { given ≤ length whole.old.clauses.clauses }
     requires logged { IsLogged (front_of given whole.old.clauses) whole.old.clauses whole.old.log }
@@ -235,10 +234,10 @@ fn segment(
     ensures answers { IfOk result (λ r. IfSome r (Answers given whole.new)) }
 {
     if whole.log.len() == kept.len() {
-        return segment_of_all(alloc, given, whole, watched, kept, budget, room);
+        return segment_of_all(alloc, given, whole, watched, kept, plan.length, plan.room);
     }
     *watched = Watched::new(alloc);
-    segment_of_kept(alloc, given, whole, active, kept, budget, room)
+    segment_of_kept(alloc, given, whole, active, kept, plan.length, plan.room)
 }
 
 /// Segments one after another until one has an answer, or they learned as many clauses as the budget says.
@@ -260,7 +259,11 @@ pub fn segments(
     let mut left = budget;
     'more: while 0 < left {
         let most = plan.budget(left);
-        let end = segment(alloc, given, whole, active, watched, kept, most, plan.room)?;
+        let next = Plan {
+            length: most,
+            room: plan.room,
+        };
+        let end = segment(alloc, given, whole, active, watched, kept, next)?;
         if let Some(answer) = end {
             return Ok(Some(answer));
         }

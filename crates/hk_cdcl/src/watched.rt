@@ -141,6 +141,17 @@ fn settle(clauses: &ClauseList, trail: &mut Trail, place: usize, lit: Lit) -> Vi
     }
 }
 
+/// A watch that is looked at.
+#[derive(Clone, Copy)]
+struct Turn {
+    /// The place on the trail of the literal that makes the watched one false.
+    head: usize,
+    /// The code of the watched literal.
+    code: u32,
+    /// The watch's place in that literal's list.
+    place: usize,
+}
+
 impl Watched {
     /// Goes on with another literal of the clause that is not false: where it is true, it blocks the watch, and else it is
     /// watched.
@@ -148,19 +159,17 @@ impl Watched {
         &mut self,
         clauses: &ClauseList,
         trail: &Trail,
-        head: usize,
-        code: u32,
-        place: usize,
+        turn: Turn,
         slot: Slot,
         next: u32,
     ) -> Visit
         requires vars { trail.now.vars ≡ clauses.now.vars }
-        requires turning { Turning clauses.now.clauses self.old trail.now head (lit_of code) place }
-        requires inside { code < length self.old.watches.lists }
+        requires turning { Turning clauses.now.clauses self.old trail.now turn.head (lit_of turn.code) turn.place }
+        requires inside { turn.code < length self.old.watches.lists }
         requires long { nat_le (2 ^ 31) slot.target ≡ false }
-        requires moves { Moves clauses.now.clauses self.old.watches.lists self.old.watches.pairs trail.now.lits (lit_of code) place (plain_of self.old.watches.starts slot).clause (lit_of next) (plain_of self.old.watches.starts slot).blocker (plain_of self.old.watches.starts slot) }
-        ensures visited { Visited clauses.now.clauses self.new trail.now head (lit_of code) place result }
-        ensures fewer { Fewer self.old.watches.lists self.new.watches.lists (lit_of code) result }
+        requires moves { Moves clauses.now.clauses self.old.watches.lists self.old.watches.pairs trail.now.lits (lit_of turn.code) turn.place (plain_of self.old.watches.starts slot).clause (lit_of next) (plain_of self.old.watches.starts slot).blocker (plain_of self.old.watches.starts slot) }
+        ensures visited { Visited clauses.now.clauses self.new trail.now turn.head (lit_of turn.code) turn.place result }
+        ensures fewer { Fewer self.old.watches.lists self.new.watches.lists (lit_of turn.code) result }
     {
         // For the proof: the clauses' literals are of the list's variables.
         let _within = clauses.len();
@@ -173,10 +182,10 @@ impl Watched {
                 blocker: next,
                 target: slot.target,
             };
-            self.block(code, place, blocked);
+            self.block(turn.code, turn.place, blocked);
             return Visit::Stays;
         }
-        if self.watches.rewatch(code, place, slot, next) {
+        if self.watches.rewatch(turn.code, turn.place, slot, next) {
             Visit::Goes
         } else {
             Visit::Wants
@@ -224,7 +233,7 @@ impl Watched {
             let clause = self.watches.clause(slot);
             return settle(clauses, trail, clause, literal(other));
         };
-        self.go_on(clauses, trail, head, code, place, moved, next)
+        self.go_on(clauses, trail, Turn { head, code, place }, moved, next)
     }
 
     /// Looks at the watch at a place of the list of the literal with this code, which became false by that at `head`.
