@@ -9,17 +9,17 @@ ghost use Rattle.ir_type.specs.Names.{entry_of};
 ghost use Rattle.ir_type.specs.Whole.{meant};
 ghost use Rattle.ir_layout.specs.Sizes as sizes;
 ghost use Rattle.ir_typing.specs.Scoped.{function_in};
+ghost use Rattle.ir_measure.specs.Shaped.{type_in, count_of, IsSound, IsShaped};
 ghost use Rattle.ir_resolve.specs.Acts as definition;
 ghost use Rattle.ir_resolve.specs.Locals.{IsLocalOf};
-ghost use Rattle.ir_resolve.specs.Shaped.{type_in, count_of, IsSound, IsShaped};
 
 use crate::literal::number_in;
 use crate::local::Local;
 use crate::operands::input_of;
-use crate::shapes::Shapes;
 use hk_seq::Seq;
 use ir_ast::{IrType, Module, Name, Operand, RangeEntry};
 use ir_code::{Act, Span};
+use ir_measure::Shapes;
 use ir_typing::Scope;
 use std::alloc::{AllocError, Global};
 

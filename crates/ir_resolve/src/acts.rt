@@ -6,23 +6,23 @@ ghost use Rattle.ir_ast.specs.View.{view_type, view_operand, view_gep};
 ghost use Rattle.ir_ast.specs.ProgramView.{view_module, view_op, view_instr, view_arms};
 ghost use Rattle.ir_type.specs.Whole.{meant, is_pointer};
 ghost use Rattle.ir_typing.specs.Scoped.{function_in};
+ghost use Rattle.ir_measure.specs.Shaped.{IsShaped};
 ghost use Rattle.ir_resolve.specs.Operands as operands;
 ghost use Rattle.ir_resolve.specs.Acts as definition;
 ghost use Rattle.ir_resolve.specs.Resolved as resolved;
 ghost use Rattle.ir_resolve.specs.Locals.{IsLocalOf};
-ghost use Rattle.ir_resolve.specs.Shaped.{IsShaped};
 
 use crate::access::{align_in, load, register_place, store};
 use crate::calls::{call, typed};
 use crate::literal::number_in;
 use crate::local::Local;
 use crate::operands::{form_input, input_of, width_in};
-use crate::shapes::Shapes;
 use hk_seq::Seq;
 use ir_ast::{
     BinaryKind, ConvertKind, Flags, Gep, Instr, IrType, Module, Name, Op, Operand, Predicate,
 };
 use ir_code::{Act, Arm, Case, Input, Step};
+use ir_measure::Shapes;
 use ir_typing::Scope;
 use std::alloc::{AllocError, Global};
 

@@ -7,14 +7,14 @@ ghost use Rattle.ir_ast.specs.ProgramView.{view_module, view_typed};
 ghost use Rattle.ir_type.specs.Whole.{meant};
 ghost use Rattle.ir_typing.specs.Intrinsics.{intrinsic_of};
 ghost use Rattle.ir_typing.specs.Scoped.{function_in};
+ghost use Rattle.ir_measure.specs.Shaped.{IsShaped};
 ghost use Rattle.ir_resolve.specs.Acts as definition;
-ghost use Rattle.ir_resolve.specs.Shaped.{IsShaped};
 
 use crate::operands::{input_of, width_in};
-use crate::shapes::Shapes;
 use hk_seq::Seq;
 use ir_ast::{IrType, Module, Name, Operand};
 use ir_code::{Act, Input};
+use ir_measure::Shapes;
 use ir_typing::{Scope, intrinsic};
 use ir_value::{OverflowKind, PairKind};
 use std::alloc::{AllocError, Global};

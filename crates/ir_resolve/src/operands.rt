@@ -6,17 +6,18 @@ ghost use Rattle.ir_ast.specs.Table.{names_of};
 ghost use Rattle.ir_ast.specs.View.{view_type, view_operand, view_gep, view_index_list, view_indices};
 ghost use Rattle.ir_ast.specs.ProgramView.{view_module};
 ghost use Rattle.ir_typing.specs.Scoped.{function_in};
+ghost use Rattle.ir_measure.specs.Measures.{offset_at};
+ghost use Rattle.ir_measure.specs.Shaped.{type_in, count_of, IsSound, IsShaped};
 ghost use Rattle.ir_resolve.specs.Operands as definition;
-ghost use Rattle.ir_resolve.specs.Shaped.{type_in, count_of, IsSound, IsShaped};
 ghost use Rattle.ir_layout.specs.Sizes.{size_of};
 ghost use Rattle.ir_layout.specs.Facts.{cut};
 ghost use Rattle.ir_whole.specs.Questions.{field_of};
 
 use crate::literal::{index_in, number_in};
-use crate::shapes::Shapes;
 use hk_seq::Seq;
 use ir_ast::{Gep, IndexList, IrType, Module, Name, Operand};
 use ir_code::{Base, Input, Move};
+use ir_measure::Shapes;
 use ir_typing::Scope;
 use ir_value::Value;
 use std::alloc::{AllocError, Global};
@@ -134,14 +135,27 @@ fn field_index(width: Option<u32>, operand: &Operand) -> Option<u32>
     }
 }
 
+/// The element of an array.
+fn element_at(shapes: &Shapes, at: u32) -> Option<u32>
+    requires within { at < count_of shapes.now }
+    requires sound { IsSound shapes.now }
+    ensures element { option_map (type_in shapes.now) result ≡ definition.element_of (type_in shapes.now at) }
+    ensures within { IfSome result (λ n. n < at) }
+{
+    match shapes.element(at) {
+        Some((_, element)) => Some(element),
+        None => None,
+    }
+}
+
 /// The bytes before the field of a type that an index chooses.
 fn bytes_before(shapes: &Shapes, at: u32, field: Option<u32>) -> Option<u64>
     requires within { at < count_of shapes.now }
     requires sound { IsSound shapes.now }
-    ensures { result ≡ option_and_then (definition.offset_at (type_in shapes.now at)) field }
+    ensures { result ≡ option_and_then (offset_at (type_in shapes.now at)) field }
 {
     match field {
-        Some(field) => shapes.offset_at(at, field),
+        Some(field) => shapes.offset_at(at, u64::from(field)),
         None => None,
     }
 }
@@ -183,7 +197,7 @@ fn chosen_field(shapes: &Shapes, at: u32, field: Option<u32>) -> Option<u32>
     ensures within { IfSome result (λ n. n < count_of shapes.now) }
 {
     match field {
-        Some(field) => shapes.field(at, field),
+        Some(field) => shapes.field(at, u64::from(field)),
         None => None,
     }
 }
@@ -225,7 +239,7 @@ fn move_from(
 {
     match at {
         Some(at) => {
-            let element = shapes.element(at);
+            let element = element_at(shapes, at);
             part_move(kernel, scope, shapes, inbounds, at, element, width, operand)
         }
         None => lost_move(inbounds),
@@ -240,13 +254,13 @@ fn part_from(shapes: &Shapes, at: Option<u32>, width: Option<u32>, operand: &Ope
     ensures within { IfSome result (λ n. n < count_of shapes.now) }
 {
     match at {
-        Some(at) => part_of(shapes, at, shapes.element(at), width, operand),
+        Some(at) => part_of(shapes, at, element_at(shapes, at), width, operand),
         None => None,
     }
 }
 
 /// The width in bits of an integer type, seen through names.
-#[tactic(auto, using(crate::proofs::Shaping::kept_part))]
+#[tactic(auto, using(ir_measure::proofs::Shaping::kept_part))]
 pub fn width_in(
     alloc: Global,
     kernel: &Module,

@@ -6,17 +6,17 @@ ghost use Rattle.ir_ast.specs.ProgramView.{view_entries, view_type_entry, view_m
 ghost use Rattle.ir_layout.specs.Layouts.{IsLayoutOf};
 ghost use Rattle.ir_typing.specs.Scoped.{function_in};
 ghost use Rattle.ir_whole.specs.Numbers.{IsFor};
+ghost use Rattle.ir_measure.specs.Shaped.{IsShaped};
 ghost use Rattle.ir_resolve.specs.Resolved as definition;
 ghost use Rattle.ir_resolve.specs.Locals.{IsLocalOf};
-ghost use Rattle.ir_resolve.specs.Shaped.{IsShaped};
 
 use crate::acts::step_of;
 use crate::local::{Local, blocks_in, small_count};
-use crate::shapes::Shapes;
 use hk_seq::Seq;
 use ir_ast::{Function, Instr, Module};
 use ir_code::{Block, Code, Object, Program, Step};
 use ir_layout::Layout;
+use ir_measure::Shapes;
 use ir_typing::Scope;
 use ir_whole::TypeNumbers;
 use std::alloc::{AllocError, Global};

@@ -2,7 +2,7 @@ use Rattle.std.proofs.Common.{◌≡◌, ◌++◌, drop}
 use Rattle.ir_ast.specs.ProgramView.{view_module, view_typed}
 use Rattle.ir_typing.specs.Scoped.{function_in}
 use Rattle.ir_resolve.specs.Acts.{inputs_of}
-use Rattle.ir_resolve.specs.Shaped.{IsShaped}
+use Rattle.ir_measure.specs.Shaped.{IsShaped}
 use Rattle.ir_resolve.proofs.calls.inputs_of.Given as goal
 
 abbrev pub invariant-each : goal.invariant-each

@@ -1,6 +1,6 @@
 use Rattle.ir_ast.specs.ProgramView.{view_module}
 use Rattle.ir_typing.specs.Scoped.{function_in}
-use Rattle.ir_resolve.specs.Shaped.{type_in}
+use Rattle.ir_measure.specs.Shaped.{type_in}
 use Rattle.ir_resolve.proofs.Moves.{all_moves}
 use Rattle.ir_resolve.proofs.operands.add_moves.Goals as goal
 

@@ -4,7 +4,7 @@ use Rattle.ir_ast.specs.View.{view_indices}
 use Rattle.ir_ast.specs.ProgramView.{view_module}
 use Rattle.ir_typing.specs.Scoped.{function_in}
 use Rattle.ir_resolve.specs.Operands.{part_moves}
-use Rattle.ir_resolve.specs.Shaped.{type_in, count_of, IsShaped}
+use Rattle.ir_measure.specs.Shaped.{type_in, count_of, IsShaped}
 use Rattle.ir_resolve.proofs.operands.add_parts.Given as goal
 
 abbrev pub invariant-each : goal.invariant-each

@@ -2,7 +2,7 @@ use Rattle.std.proofs.Common.{◌≡◌, ◌++◌, drop, map}
 use Rattle.ir_ast.specs.ProgramView.{view_module, view_instr}
 use Rattle.ir_typing.specs.Scoped.{function_in}
 use Rattle.ir_resolve.specs.Resolved.{step_of}
-use Rattle.ir_resolve.specs.Shaped.{IsShaped}
+use Rattle.ir_measure.specs.Shaped.{IsShaped}
 use Rattle.ir_resolve.proofs.program.steps_of.Given as goal
 
 abbrev pub invariant-each : goal.invariant-each
