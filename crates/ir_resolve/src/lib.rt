@@ -7,6 +7,7 @@
 mod access;
 mod acts;
 mod calls;
+mod context;
 mod literal;
 mod local;
 mod operands;

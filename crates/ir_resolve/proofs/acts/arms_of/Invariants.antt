@@ -7,6 +7,6 @@ use Rattle.ir_resolve.proofs.acts.arms_of.Given as goal
 
 abbrev pub invariant-each : goal.invariant-each
 invariant-each l = record {
-  shaped : IsShaped (view_module l.kernel).types l.shapes;
-  left : l.arms ++ arms_of (view_module l.kernel) (function_in l.scope) l.width (view_arms (drop l.arm-index l.items)) ≡ arms_of (view_module l.kernel) (function_in l.scope) l.width (view_arms l.items);
+  shaped : IsShaped (view_module l.context.kernel.now).types l.shapes;
+  left : l.arms ++ arms_of (view_module l.context.kernel.now) (function_in l.context.scope.now) l.width (view_arms (drop l.arm-index l.items)) ≡ arms_of (view_module l.context.kernel.now) (function_in l.context.scope.now) l.width (view_arms l.items);
 }

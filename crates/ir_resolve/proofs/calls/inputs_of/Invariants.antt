@@ -7,6 +7,6 @@ use Rattle.ir_resolve.proofs.calls.inputs_of.Given as goal
 
 abbrev pub invariant-each : goal.invariant-each
 invariant-each l = record {
-  shaped : IsShaped (view_module l.kernel).types l.shapes;
-  left : l.inputs ++ inputs_of (view_module l.kernel) (function_in l.scope) (view_typed (drop l.argument-index l.arguments)) ≡ inputs_of (view_module l.kernel) (function_in l.scope) (view_typed l.arguments);
+  shaped : IsShaped (view_module l.context.kernel.now).types l.shapes;
+  left : l.inputs ++ inputs_of (view_module l.context.kernel.now) (function_in l.context.scope.now) (view_typed (drop l.argument-index l.arguments)) ≡ inputs_of (view_module l.context.kernel.now) (function_in l.context.scope.now) (view_typed l.arguments);
 }

@@ -7,6 +7,6 @@ use Rattle.ir_resolve.proofs.program.steps_of.Given as goal
 
 abbrev pub invariant-each : goal.invariant-each
 invariant-each l = record {
-  shaped : IsShaped (view_module l.kernel).types l.shapes;
-  left : l.steps ++ map (step_of (view_module l.kernel) (function_in l.scope)) (map view_instr (drop l.instr-index l.instrs)) ≡ map (step_of (view_module l.kernel) (function_in l.scope)) (map view_instr l.instrs);
+  shaped : IsShaped (view_module l.context.kernel.now).types l.shapes;
+  left : l.steps ++ map (step_of (view_module l.context.kernel.now) (function_in l.context.scope.now)) (map view_instr (drop l.instr-index l.instrs)) ≡ map (step_of (view_module l.context.kernel.now) (function_in l.context.scope.now)) (map view_instr l.instrs);
 }
