@@ -30,7 +30,8 @@ use Rattle.ir_whole.specs.Questions.{width_of, field_in, field_of}
 use Rattle.ir_machine.specs.declared.state.Held.{Held}
 use Rattle.ir_machine.specs.declared.state.Held.TheVariants as held
 use Rattle.ir_machine.specs.Values.{Registers, held_at, value_held, base_value, size_at, stepped, moved, moved_all, value_of}
-use Rattle.ir_resolve.specs.Operands.{register_base, object_base, base_of, index_move, field_move, field_index, offset_at, move_from, part_from, width_in, part_moves, moves_of, input_of, form_input}
+use Rattle.ir_measure.specs.Measures.{offset_at}
+use Rattle.ir_resolve.specs.Operands.{register_base, object_base, base_of, index_move, field_move, field_index, move_from, part_from, width_in, part_moves, moves_of, input_of, form_input}
 use Rattle.ir_walk.specs.Walk.{Memory}
 use Rattle.ir_kernel.specs.Typed.{is_of, IsValueOf, IsSetTo, Holds, IsReady}
 use Rattle.ir_kernel.proofs.ValueTypes.{begin_makes, step_makes}

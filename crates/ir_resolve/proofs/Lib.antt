@@ -1,6 +1,3 @@
-pub mod Bounds
-pub mod Shaping
-pub mod Offsets
 pub mod Moves
 pub mod Flags
 pub mod Written

@@ -1,6 +1,4 @@
 pub mod Operands
 pub mod Acts
 pub mod Resolved
-pub mod Measures
-pub mod Shaped
 pub mod Locals

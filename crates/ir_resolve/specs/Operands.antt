@@ -1,13 +1,14 @@
 -- Operands with places for names: what each begins with, and what is added to it.
-use Rattle.std.specs.Prelude.{ℕ, ◌==◌, ℤ, Bool, if◌then◌else◌, min, nat_lt, Option, Some, None, option_and_then, unwrap_or, List, [], ◌∷◌, ◌++◌, position, bytes_eq}
-use Rattle.ir_ast.specs.Plain.{Ty, array, Val, Form, Indices, local, global, number, null, poison, address, form, no_indices, index_and}
+use Rattle.std.specs.Prelude.{ℕ, ◌==◌, ℤ, Bool, if◌then◌else◌, min, Option, Some, None, option_map, option_and_then, unwrap_or, List, [], ◌∷◌, ◌++◌, position, bytes_eq}
+use Rattle.ir_ast.specs.Plain.{Ty, Val, Form, Indices, local, global, number, null, poison, address, form, no_indices, index_and}
 use Rattle.ir_ast.specs.Program.{FunctionView, ModuleView}
 use Rattle.ir_ast.specs.Table.{names_of}
 use Rattle.ir_type.specs.Whole.{meant}
-use Rattle.ir_layout.specs.Sizes.{size_of, field_offset}
+use Rattle.ir_layout.specs.Sizes.{size_of}
 use Rattle.ir_layout.specs.Facts.{cut}
-use Rattle.ir_layout.specs.Offsets.{fields_in}
+use Rattle.ir_whole.specs.Questions as parts
 use Rattle.ir_whole.specs.Questions.{width_of, field_of}
+use Rattle.ir_measure.specs.Measures.{offset_at}
 use Rattle.ir_typing.specs.Places.{register_names}
 use Rattle.ir_typing.specs.Fits.{modulo}
 use Rattle.ir_value.specs.declared.value.Value.TheVariants.{Number, Null, Address, Poison}
@@ -65,13 +66,9 @@ abbrev pub field_index : Option ℕ → Val → Option ℕ
 field_index (Some w) (number n) = if w == 32 then Some (modulo 32 n) else None
 field_index _ _ = None
 
--- the bytes before a field; sizes and offsets over 2^32, which no kernel that was laid out has, count as 2^32 + 1
-abbrev pub offset_at : Ty → ℕ → Option ℕ
-offset_at t k = if nat_lt k (fields_in t) then Some (cut (field_offset t k)) else None
-
+-- the element of an array
 abbrev pub element_of : Ty → Option Ty
-element_of (array n t) = Some t
-element_of _ = None
+element_of t = option_map (λ p. p.1) (parts.element_of t)
 
 -- the step to a part of a type: over values of its element where it is an array, else to a field
 abbrev pub part_move : ModuleView → FunctionView → Bool → Ty → Option Ty → Option ℕ → Val → Move

@@ -9,17 +9,17 @@ ghost use Rattle.ir_type.specs.Names.{entry_of};
 ghost use Rattle.ir_type.specs.Whole.{meant};
 ghost use Rattle.ir_layout.specs.Sizes as sizes;
 ghost use Rattle.ir_typing.specs.Scoped.{function_in};
+ghost use Rattle.ir_measure.specs.Shaped.{type_in, count_of, IsSound, IsShaped};
 ghost use Rattle.ir_resolve.specs.Acts as definition;
 ghost use Rattle.ir_resolve.specs.Locals.{IsLocalOf};
-ghost use Rattle.ir_resolve.specs.Shaped.{type_in, count_of, IsSound, IsShaped};
 
+use crate::context::Context;
 use crate::literal::number_in;
-use crate::local::Local;
 use crate::operands::input_of;
-use crate::shapes::Shapes;
 use hk_seq::Seq;
 use ir_ast::{IrType, Module, Name, Operand, RangeEntry};
 use ir_code::{Act, Span};
+use ir_measure::Shapes;
 use ir_typing::Scope;
 use std::alloc::{AllocError, Global};
 
@@ -54,12 +54,12 @@ fn flag_at(flags: &[bool], place: u32) -> bool
 }
 
 /// The slot whose address an operand is.
-fn slot_place(scope: &Scope, local: &Local, operand: &Operand) -> Option<u32>
-    requires { IsLocalOf (function_in scope.now) local.now }
-    ensures { result ≡ definition.slot_place (function_in scope.now) (view_operand operand.now) }
+fn slot_place(context: &Context, operand: &Operand) -> Option<u32>
+    requires { IsLocalOf (function_in context.now.scope.now) context.now.local.now }
+    ensures { result ≡ definition.slot_place (function_in context.now.scope.now) (view_operand operand.now) }
 {
-    match register_place(scope, operand) {
-        Some(place) => where_true(local.slots.as_slice(), place),
+    match register_place(context.scope, operand) {
+        Some(place) => where_true(context.local.slots.as_slice(), place),
         None => None,
     }
 }
@@ -173,27 +173,35 @@ fn bytes_of(shapes: &Shapes, over: u32) -> u32
     shapes.size_of(over).min(4_294_967_295) as u32
 }
 
+/// What a load or a store accesses.
+#[derive(Clone, Copy)]
+struct Accessed<'a> {
+    /// The number of the type.
+    over: u32,
+    address: &'a Operand,
+    /// The alignment in bytes that is written, or 0.
+    align: u64,
+    /// The slot whose address it is.
+    slot: Option<u32>,
+}
+
 /// A load of the type with a number.
 fn load_by(
     alloc: Global,
-    kernel: &Module,
-    scope: &Scope,
+    context: &Context,
     shapes: &mut Shapes,
-    over: u32,
-    address: &Operand,
-    align: u64,
+    from: &Accessed,
     spans: Option<Seq<Span>>,
-    slot: Option<u32>,
 ) -> Result<Act, AllocError>
-    requires small { IsSmall kernel.now }
-    requires shaped { IsShaped (view_module kernel.now).types shapes.old }
-    requires within { over < count_of shapes.old }
-    ensures act { IfOk result (λ act. act ≡ definition.load_by (view_module kernel.now) (function_in scope.now) (type_in shapes.old over) (view_operand address.now) align spans slot) }
-    ensures shaped { IsShaped (view_module kernel.now).types shapes.new }
+    requires small { IsSmall context.now.kernel.now }
+    requires shaped { IsShaped (view_module context.now.kernel.now).types shapes.old }
+    requires within { from.now.over < count_of shapes.old }
+    ensures act { IfOk result (λ act. act ≡ definition.load_by (view_module context.now.kernel.now) (function_in context.now.scope.now) (type_in shapes.old from.now.over) (view_operand from.now.address.now) from.now.align spans from.now.slot) }
+    ensures shaped { IsShaped (view_module context.now.kernel.now).types shapes.new }
 {
-    let width = width_at(shapes, over);
-    let align = align_in(shapes, over, align);
-    match slot {
+    let width = width_at(shapes, from.over);
+    let align = align_in(shapes, from.over, from.align);
+    match from.slot {
         Some(slot) => Ok(Act::LoadSlot {
             width,
             align,
@@ -201,8 +209,8 @@ fn load_by(
             slot,
         }),
         None => {
-            let bytes = bytes_of(shapes, over);
-            let address = input_of(alloc, kernel, scope, shapes, None, address)?;
+            let bytes = bytes_of(shapes, from.over);
+            let address = input_of(alloc, context, shapes, None, from.address)?;
             Ok(Act::Load {
                 width,
                 bytes,
@@ -217,55 +225,52 @@ fn load_by(
 /// The act of a load.
 pub fn load(
     alloc: Global,
-    kernel: &Module,
-    scope: &Scope,
-    local: &Local,
+    context: &Context,
     shapes: &mut Shapes,
     over: &IrType,
     address: &Operand,
     align: u64,
     range: &Option<Name>,
 ) -> Result<Act, AllocError>
-    requires small { IsSmall kernel.now }
-    requires local { IsLocalOf (function_in scope.now) local.now }
-    requires shaped { IsShaped (view_module kernel.now).types shapes.old }
-    ensures act { IfOk result (λ act. act ≡ definition.load_of (view_module kernel.now) (function_in scope.now) (view_type over.now) (view_operand address.now) align range.now) }
-    ensures shaped { IsShaped (view_module kernel.now).types shapes.new }
+    requires small { IsSmall context.now.kernel.now }
+    requires local { IsLocalOf (function_in context.now.scope.now) context.now.local.now }
+    requires shaped { IsShaped (view_module context.now.kernel.now).types shapes.old }
+    ensures act { IfOk result (λ act. act ≡ definition.load_of (view_module context.now.kernel.now) (function_in context.now.scope.now) (view_type over.now) (view_operand address.now) align range.now) }
+    ensures shaped { IsShaped (view_module context.now.kernel.now).types shapes.new }
 {
-    let over = shapes.number(alloc, &kernel.types, over)?;
-    let spans = spans_of(alloc, kernel, width_at(shapes, over), range)?;
-    let slot = slot_place(scope, local, address);
-    load_by(
-        alloc, kernel, scope, shapes, over, address, align, spans, slot,
-    )
+    let over = shapes.number(alloc, &context.kernel.types, over)?;
+    let spans = spans_of(alloc, context.kernel, width_at(shapes, over), range)?;
+    let from = Accessed {
+        over,
+        address,
+        align,
+        slot: slot_place(context, address),
+    };
+    load_by(alloc, context, shapes, &from, spans)
 }
 
 /// A store of the type with a number.
 fn store_by(
     alloc: Global,
-    kernel: &Module,
-    scope: &Scope,
+    context: &Context,
     shapes: &mut Shapes,
-    over: u32,
     value: &Operand,
-    address: &Operand,
-    align: u64,
-    slot: Option<u32>,
+    to: &Accessed,
 ) -> Result<Act, AllocError>
-    requires small { IsSmall kernel.now }
-    requires shaped { IsShaped (view_module kernel.now).types shapes.old }
-    requires within { over < count_of shapes.old }
-    ensures act { IfOk result (λ act. act ≡ definition.store_by (view_module kernel.now) (function_in scope.now) (type_in shapes.old over) (view_operand value.now) (view_operand address.now) align slot) }
-    ensures shaped { IsShaped (view_module kernel.now).types shapes.new }
+    requires small { IsSmall context.now.kernel.now }
+    requires shaped { IsShaped (view_module context.now.kernel.now).types shapes.old }
+    requires within { to.now.over < count_of shapes.old }
+    ensures act { IfOk result (λ act. act ≡ definition.store_by (view_module context.now.kernel.now) (function_in context.now.scope.now) (type_in shapes.old to.now.over) (view_operand value.now) (view_operand to.now.address.now) to.now.align to.now.slot) }
+    ensures shaped { IsShaped (view_module context.now.kernel.now).types shapes.new }
 {
-    let align = align_in(shapes, over, align);
-    let bytes = bytes_of(shapes, over);
-    let width = shapes.width(over);
-    let value = input_of(alloc, kernel, scope, shapes, width, value)?;
-    match slot {
+    let align = align_in(shapes, to.over, to.align);
+    let bytes = bytes_of(shapes, to.over);
+    let width = shapes.width(to.over);
+    let value = input_of(alloc, context, shapes, width, value)?;
+    match to.slot {
         Some(slot) => Ok(Act::StoreSlot { align, value, slot }),
         None => {
-            let address = input_of(alloc, kernel, scope, shapes, None, address)?;
+            let address = input_of(alloc, context, shapes, None, to.address)?;
             Ok(Act::Store {
                 bytes,
                 align,
@@ -279,24 +284,25 @@ fn store_by(
 /// The act of a store.
 pub fn store(
     alloc: Global,
-    kernel: &Module,
-    scope: &Scope,
-    local: &Local,
+    context: &Context,
     shapes: &mut Shapes,
     over: &IrType,
     value: &Operand,
     address: &Operand,
     align: u64,
 ) -> Result<Act, AllocError>
-    requires small { IsSmall kernel.now }
-    requires local { IsLocalOf (function_in scope.now) local.now }
-    requires shaped { IsShaped (view_module kernel.now).types shapes.old }
-    ensures act { IfOk result (λ act. act ≡ definition.store_of (view_module kernel.now) (function_in scope.now) (view_type over.now) (view_operand value.now) (view_operand address.now) align) }
-    ensures shaped { IsShaped (view_module kernel.now).types shapes.new }
+    requires small { IsSmall context.now.kernel.now }
+    requires local { IsLocalOf (function_in context.now.scope.now) context.now.local.now }
+    requires shaped { IsShaped (view_module context.now.kernel.now).types shapes.old }
+    ensures act { IfOk result (λ act. act ≡ definition.store_of (view_module context.now.kernel.now) (function_in context.now.scope.now) (view_type over.now) (view_operand value.now) (view_operand address.now) align) }
+    ensures shaped { IsShaped (view_module context.now.kernel.now).types shapes.new }
 {
-    let over = shapes.number(alloc, &kernel.types, over)?;
-    let slot = slot_place(scope, local, address);
-    store_by(
-        alloc, kernel, scope, shapes, over, value, address, align, slot,
-    )
+    let over = shapes.number(alloc, &context.kernel.types, over)?;
+    let to = Accessed {
+        over,
+        address,
+        align,
+        slot: slot_place(context, address),
+    };
+    store_by(alloc, context, shapes, value, &to)
 }

@@ -7,52 +7,51 @@ ghost use Rattle.ir_ast.specs.ProgramView.{view_module, view_typed};
 ghost use Rattle.ir_type.specs.Whole.{meant};
 ghost use Rattle.ir_typing.specs.Intrinsics.{intrinsic_of};
 ghost use Rattle.ir_typing.specs.Scoped.{function_in};
+ghost use Rattle.ir_measure.specs.Shaped.{IsShaped};
 ghost use Rattle.ir_resolve.specs.Acts as definition;
-ghost use Rattle.ir_resolve.specs.Shaped.{IsShaped};
 
+use crate::context::Context;
 use crate::operands::{input_of, width_in};
-use crate::shapes::Shapes;
 use hk_seq::Seq;
 use ir_ast::{IrType, Module, Name, Operand};
 use ir_code::{Act, Input};
-use ir_typing::{Scope, intrinsic};
+use ir_measure::Shapes;
+use ir_typing::intrinsic;
 use ir_value::{OverflowKind, PairKind};
 use std::alloc::{AllocError, Global};
 
 /// An operand of a type as it is spelled.
 pub fn typed(
     alloc: Global,
-    kernel: &Module,
-    scope: &Scope,
+    context: &Context,
     shapes: &mut Shapes,
     over: &IrType,
     operand: &Operand,
 ) -> Result<Input, AllocError>
-    requires small { IsSmall kernel.now }
-    requires shaped { IsShaped (view_module kernel.now).types shapes.old }
-    ensures input { IfOk result (λ i. i ≡ definition.typed (view_module kernel.now) (function_in scope.now) (view_type over.now) (view_operand operand.now)) }
-    ensures shaped { IsShaped (view_module kernel.now).types shapes.new }
+    requires small { IsSmall context.now.kernel.now }
+    requires shaped { IsShaped (view_module context.now.kernel.now).types shapes.old }
+    ensures input { IfOk result (λ i. i ≡ definition.typed (view_module context.now.kernel.now) (function_in context.now.scope.now) (view_type over.now) (view_operand operand.now)) }
+    ensures shaped { IsShaped (view_module context.now.kernel.now).types shapes.new }
 {
-    let width = width_in(alloc, kernel, shapes, over)?;
-    input_of(alloc, kernel, scope, shapes, width, operand)
+    let width = width_in(alloc, context.kernel, shapes, over)?;
+    input_of(alloc, context, shapes, width, operand)
 }
 
 /// Operands, each of its type.
 fn inputs_of(
     alloc: Global,
-    kernel: &Module,
-    scope: &Scope,
+    context: &Context,
     shapes: &mut Shapes,
     arguments: &[(IrType, Operand)],
 ) -> Result<Seq<Input>, AllocError>
-    requires small { IsSmall kernel.now }
-    requires shaped { IsShaped (view_module kernel.now).types shapes.old }
-    ensures inputs { IfOk result (λ is. is ≡ definition.inputs_of (view_module kernel.now) (function_in scope.now) (view_typed arguments.now)) }
-    ensures shaped { IsShaped (view_module kernel.now).types shapes.new }
+    requires small { IsSmall context.now.kernel.now }
+    requires shaped { IsShaped (view_module context.now.kernel.now).types shapes.old }
+    ensures inputs { IfOk result (λ is. is ≡ definition.inputs_of (view_module context.now.kernel.now) (function_in context.now.scope.now) (view_typed arguments.now)) }
+    ensures shaped { IsShaped (view_module context.now.kernel.now).types shapes.new }
 {
     let mut inputs = Seq::new(alloc);
     'each: for argument in arguments {
-        inputs.push(typed(alloc, kernel, scope, shapes, &argument.0, &argument.1)?)?;
+        inputs.push(typed(alloc, context, shapes, &argument.0, &argument.1)?)?;
     }
     Ok(inputs)
 }
@@ -118,23 +117,22 @@ fn number_width(
 /// A call with overflow.
 fn overflow_act(
     alloc: Global,
-    kernel: &Module,
-    scope: &Scope,
+    context: &Context,
     shapes: &mut Shapes,
     kind: (OverflowKind, bool),
     arguments: &[(IrType, Operand)],
 ) -> Result<Act, AllocError>
-    requires small { IsSmall kernel.now }
-    requires shaped { IsShaped (view_module kernel.now).types shapes.old }
-    ensures act { IfOk result (λ act. act ≡ definition.overflow_act (view_module kernel.now) (function_in scope.now) kind (view_typed arguments.now)) }
-    ensures shaped { IsShaped (view_module kernel.now).types shapes.new }
+    requires small { IsSmall context.now.kernel.now }
+    requires shaped { IsShaped (view_module context.now.kernel.now).types shapes.old }
+    ensures act { IfOk result (λ act. act ≡ definition.overflow_act (view_module context.now.kernel.now) (function_in context.now.scope.now) kind (view_typed arguments.now)) }
+    ensures shaped { IsShaped (view_module context.now.kernel.now).types shapes.new }
 {
     let [first, second] = arguments else {
         return Ok(Act::Unknown);
     };
-    let width = number_width(alloc, kernel, shapes, &first.0)?;
-    let a = typed(alloc, kernel, scope, shapes, &first.0, &first.1)?;
-    let b = typed(alloc, kernel, scope, shapes, &second.0, &second.1)?;
+    let width = number_width(alloc, context.kernel, shapes, &first.0)?;
+    let a = typed(alloc, context, shapes, &first.0, &first.1)?;
+    let b = typed(alloc, context, shapes, &second.0, &second.1)?;
     Ok(Act::WithOverflow {
         kind: kind.0,
         signed: kind.1,
@@ -147,66 +145,62 @@ fn overflow_act(
 /// A call that makes one number of two.
 fn pair_act(
     alloc: Global,
-    kernel: &Module,
-    scope: &Scope,
+    context: &Context,
     shapes: &mut Shapes,
     kind: PairKind,
     arguments: &[(IrType, Operand)],
 ) -> Result<Act, AllocError>
-    requires small { IsSmall kernel.now }
-    requires shaped { IsShaped (view_module kernel.now).types shapes.old }
-    ensures act { IfOk result (λ act. act ≡ definition.pair_act (view_module kernel.now) (function_in scope.now) kind (view_typed arguments.now)) }
-    ensures shaped { IsShaped (view_module kernel.now).types shapes.new }
+    requires small { IsSmall context.now.kernel.now }
+    requires shaped { IsShaped (view_module context.now.kernel.now).types shapes.old }
+    ensures act { IfOk result (λ act. act ≡ definition.pair_act (view_module context.now.kernel.now) (function_in context.now.scope.now) kind (view_typed arguments.now)) }
+    ensures shaped { IsShaped (view_module context.now.kernel.now).types shapes.new }
 {
     let [first, second] = arguments else {
         return Ok(Act::Unknown);
     };
-    let width = number_width(alloc, kernel, shapes, &first.0)?;
-    let a = typed(alloc, kernel, scope, shapes, &first.0, &first.1)?;
-    let b = typed(alloc, kernel, scope, shapes, &second.0, &second.1)?;
+    let width = number_width(alloc, context.kernel, shapes, &first.0)?;
+    let a = typed(alloc, context, shapes, &first.0, &first.1)?;
+    let b = typed(alloc, context, shapes, &second.0, &second.1)?;
     Ok(Act::Pair { kind, width, a, b })
 }
 
 /// A call of `llvm.assume`.
 fn assume_act(
     alloc: Global,
-    kernel: &Module,
-    scope: &Scope,
+    context: &Context,
     shapes: &mut Shapes,
     arguments: &[(IrType, Operand)],
 ) -> Result<Act, AllocError>
-    requires small { IsSmall kernel.now }
-    requires shaped { IsShaped (view_module kernel.now).types shapes.old }
-    ensures act { IfOk result (λ act. act ≡ definition.assume_act (view_module kernel.now) (function_in scope.now) (view_typed arguments.now)) }
-    ensures shaped { IsShaped (view_module kernel.now).types shapes.new }
+    requires small { IsSmall context.now.kernel.now }
+    requires shaped { IsShaped (view_module context.now.kernel.now).types shapes.old }
+    ensures act { IfOk result (λ act. act ≡ definition.assume_act (view_module context.now.kernel.now) (function_in context.now.scope.now) (view_typed arguments.now)) }
+    ensures shaped { IsShaped (view_module context.now.kernel.now).types shapes.new }
 {
     let [only] = arguments else {
         return Ok(Act::Unknown);
     };
-    let condition = typed(alloc, kernel, scope, shapes, &only.0, &only.1)?;
+    let condition = typed(alloc, context, shapes, &only.0, &only.1)?;
     Ok(Act::Assume { condition })
 }
 
 /// A call of a listed intrinsic.
 fn intrinsic_act(
     alloc: Global,
-    kernel: &Module,
-    scope: &Scope,
+    context: &Context,
     shapes: &mut Shapes,
     name: &Name,
     arguments: &[(IrType, Operand)],
 ) -> Result<Act, AllocError>
-    requires small { IsSmall kernel.now }
-    requires shaped { IsShaped (view_module kernel.now).types shapes.old }
-    ensures act { IfOk result (λ act. act ≡ definition.intrinsic_act (view_module kernel.now) (function_in scope.now) (definition.overflow_kind name.now) name.now (view_typed arguments.now)) }
-    ensures shaped { IsShaped (view_module kernel.now).types shapes.new }
+    requires small { IsSmall context.now.kernel.now }
+    requires shaped { IsShaped (view_module context.now.kernel.now).types shapes.old }
+    ensures act { IfOk result (λ act. act ≡ definition.intrinsic_act (view_module context.now.kernel.now) (function_in context.now.scope.now) (definition.overflow_kind name.now) name.now (view_typed arguments.now)) }
+    ensures shaped { IsShaped (view_module context.now.kernel.now).types shapes.new }
 {
     match overflow_kind(name.as_bytes()) {
-        Some(kind) => overflow_act(alloc, kernel, scope, shapes, kind, arguments),
+        Some(kind) => overflow_act(alloc, context, shapes, kind, arguments),
         None => other_act(
             alloc,
-            kernel,
-            scope,
+            context,
             shapes,
             pair_kind(name.as_bytes()),
             arguments,
@@ -217,20 +211,19 @@ fn intrinsic_act(
 /// A call of a listed intrinsic without overflow.
 fn other_act(
     alloc: Global,
-    kernel: &Module,
-    scope: &Scope,
+    context: &Context,
     shapes: &mut Shapes,
     kind: Option<PairKind>,
     arguments: &[(IrType, Operand)],
 ) -> Result<Act, AllocError>
-    requires small { IsSmall kernel.now }
-    requires shaped { IsShaped (view_module kernel.now).types shapes.old }
-    ensures act { IfOk result (λ act. act ≡ definition.other_act (view_module kernel.now) (function_in scope.now) kind (view_typed arguments.now)) }
-    ensures shaped { IsShaped (view_module kernel.now).types shapes.new }
+    requires small { IsSmall context.now.kernel.now }
+    requires shaped { IsShaped (view_module context.now.kernel.now).types shapes.old }
+    ensures act { IfOk result (λ act. act ≡ definition.other_act (view_module context.now.kernel.now) (function_in context.now.scope.now) kind (view_typed arguments.now)) }
+    ensures shaped { IsShaped (view_module context.now.kernel.now).types shapes.new }
 {
     match kind {
-        Some(kind) => pair_act(alloc, kernel, scope, shapes, kind, arguments),
-        None => assume_act(alloc, kernel, scope, shapes, arguments),
+        Some(kind) => pair_act(alloc, context, shapes, kind, arguments),
+        None => assume_act(alloc, context, shapes, arguments),
     }
 }
 
@@ -262,50 +255,48 @@ fn if_body(kernel: &Module, place: u32) -> Option<u32>
 /// A call of a function with a body at this place, of a listed intrinsic, or of another declared function.
 fn call_by(
     alloc: Global,
-    kernel: &Module,
-    scope: &Scope,
+    context: &Context,
     shapes: &mut Shapes,
     name: &Name,
     arguments: &[(IrType, Operand)],
     body: Option<u32>,
     listed: bool,
 ) -> Result<Act, AllocError>
-    requires small { IsSmall kernel.now }
-    requires shaped { IsShaped (view_module kernel.now).types shapes.old }
-    ensures act { IfOk result (λ act. act ≡ definition.call_by (view_module kernel.now) (function_in scope.now) name.now (view_typed arguments.now) body listed) }
-    ensures shaped { IsShaped (view_module kernel.now).types shapes.new }
+    requires small { IsSmall context.now.kernel.now }
+    requires shaped { IsShaped (view_module context.now.kernel.now).types shapes.old }
+    ensures act { IfOk result (λ act. act ≡ definition.call_by (view_module context.now.kernel.now) (function_in context.now.scope.now) name.now (view_typed arguments.now) body listed) }
+    ensures shaped { IsShaped (view_module context.now.kernel.now).types shapes.new }
 {
     match body {
         Some(function) => {
-            let arguments = inputs_of(alloc, kernel, scope, shapes, arguments)?;
+            let arguments = inputs_of(alloc, context, shapes, arguments)?;
             Ok(Act::Call {
                 function,
                 arguments,
             })
         }
-        None => declared(alloc, kernel, scope, shapes, name, arguments, listed),
+        None => declared(alloc, context, shapes, name, arguments, listed),
     }
 }
 
 /// A call of a function without a body.
 fn declared(
     alloc: Global,
-    kernel: &Module,
-    scope: &Scope,
+    context: &Context,
     shapes: &mut Shapes,
     name: &Name,
     arguments: &[(IrType, Operand)],
     listed: bool,
 ) -> Result<Act, AllocError>
-    requires small { IsSmall kernel.now }
-    requires shaped { IsShaped (view_module kernel.now).types shapes.old }
-    ensures act { IfOk result (λ act. act ≡ definition.call_by (view_module kernel.now) (function_in scope.now) name.now (view_typed arguments.now) None listed) }
-    ensures shaped { IsShaped (view_module kernel.now).types shapes.new }
+    requires small { IsSmall context.now.kernel.now }
+    requires shaped { IsShaped (view_module context.now.kernel.now).types shapes.old }
+    ensures act { IfOk result (λ act. act ≡ definition.call_by (view_module context.now.kernel.now) (function_in context.now.scope.now) name.now (view_typed arguments.now) None listed) }
+    ensures shaped { IsShaped (view_module context.now.kernel.now).types shapes.new }
 {
     if listed {
-        intrinsic_act(alloc, kernel, scope, shapes, name, arguments)
+        intrinsic_act(alloc, context, shapes, name, arguments)
     } else {
-        let arguments = inputs_of(alloc, kernel, scope, shapes, arguments)?;
+        let arguments = inputs_of(alloc, context, shapes, arguments)?;
         Ok(Act::Hook { arguments })
     }
 }
@@ -313,20 +304,19 @@ fn declared(
 /// The act of a call.
 pub fn call(
     alloc: Global,
-    kernel: &Module,
-    scope: &Scope,
+    context: &Context,
     shapes: &mut Shapes,
     name: &Name,
     arguments: &[(IrType, Operand)],
 ) -> Result<Act, AllocError>
-    requires small { IsSmall kernel.now }
-    requires shaped { IsShaped (view_module kernel.now).types shapes.old }
-    ensures act { IfOk result (λ act. act ≡ definition.call_by (view_module kernel.now) (function_in scope.now) name.now (view_typed arguments.now) (definition.body_place (view_module kernel.now) name.now) (is_some (intrinsic_of name.now))) }
-    ensures shaped { IsShaped (view_module kernel.now).types shapes.new }
+    requires small { IsSmall context.now.kernel.now }
+    requires shaped { IsShaped (view_module context.now.kernel.now).types shapes.old }
+    ensures act { IfOk result (λ act. act ≡ definition.call_by (view_module context.now.kernel.now) (function_in context.now.scope.now) name.now (view_typed arguments.now) (definition.body_place (view_module context.now.kernel.now) name.now) (is_some (intrinsic_of name.now))) }
+    ensures shaped { IsShaped (view_module context.now.kernel.now).types shapes.new }
 {
-    let body = body_place(kernel, name);
+    let body = body_place(context.kernel, name);
     let listed = is_listed(name);
-    call_by(alloc, kernel, scope, shapes, name, arguments, body, listed)
+    call_by(alloc, context, shapes, name, arguments, body, listed)
 }
 
 /// Whether a listed intrinsic has this name.

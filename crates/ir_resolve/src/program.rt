@@ -6,17 +6,18 @@ ghost use Rattle.ir_ast.specs.ProgramView.{view_entries, view_type_entry, view_m
 ghost use Rattle.ir_layout.specs.Layouts.{IsLayoutOf};
 ghost use Rattle.ir_typing.specs.Scoped.{function_in};
 ghost use Rattle.ir_whole.specs.Numbers.{IsFor};
+ghost use Rattle.ir_measure.specs.Shaped.{IsShaped};
 ghost use Rattle.ir_resolve.specs.Resolved as definition;
 ghost use Rattle.ir_resolve.specs.Locals.{IsLocalOf};
-ghost use Rattle.ir_resolve.specs.Shaped.{IsShaped};
 
 use crate::acts::step_of;
+use crate::context::Context;
 use crate::local::{Local, blocks_in, small_count};
-use crate::shapes::Shapes;
 use hk_seq::Seq;
 use ir_ast::{Function, Instr, Module};
 use ir_code::{Block, Code, Object, Program, Step};
 use ir_layout::Layout;
+use ir_measure::Shapes;
 use ir_typing::Scope;
 use ir_whole::TypeNumbers;
 use std::alloc::{AllocError, Global};
@@ -24,21 +25,19 @@ use std::alloc::{AllocError, Global};
 /// The instructions of a block.
 fn steps_of(
     alloc: Global,
-    kernel: &Module,
-    scope: &Scope,
-    local: &Local,
+    context: &Context,
     shapes: &mut Shapes,
     instrs: &[Instr],
 ) -> Result<Seq<Step>, AllocError>
-    requires small { IsSmall kernel.now }
-    requires local { IsLocalOf (function_in scope.now) local.now }
-    requires shaped { IsShaped (view_module kernel.now).types shapes.old }
-    ensures steps { IfOk result (λ r. r ≡ map (definition.step_of (view_module kernel.now) (function_in scope.now)) (map view_instr instrs.now)) }
-    ensures shaped { IsShaped (view_module kernel.now).types shapes.new }
+    requires small { IsSmall context.now.kernel.now }
+    requires local { IsLocalOf (function_in context.now.scope.now) context.now.local.now }
+    requires shaped { IsShaped (view_module context.now.kernel.now).types shapes.old }
+    ensures steps { IfOk result (λ r. r ≡ map (definition.step_of (view_module context.now.kernel.now) (function_in context.now.scope.now)) (map view_instr instrs.now)) }
+    ensures shaped { IsShaped (view_module context.now.kernel.now).types shapes.new }
 {
     let mut steps = Seq::new(alloc);
     'each: for instr in instrs {
-        steps.push(step_of(alloc, kernel, scope, local, shapes, instr)?)?;
+        steps.push(step_of(alloc, context, shapes, instr)?)?;
     }
     Ok(steps)
 }
@@ -46,22 +45,20 @@ fn steps_of(
 /// The blocks of a function.
 fn blocks_of(
     alloc: Global,
-    kernel: &Module,
-    scope: &Scope,
-    local: &Local,
+    context: &Context,
     shapes: &mut Shapes,
     items: &[ir_ast::Block],
 ) -> Result<Seq<Block>, AllocError>
-    requires small { IsSmall kernel.now }
-    requires local { IsLocalOf (function_in scope.now) local.now }
-    requires shaped { IsShaped (view_module kernel.now).types shapes.old }
-    ensures blocks { IfOk result (λ r. r ≡ map (definition.block_of (view_module kernel.now) (function_in scope.now)) (map view_block items.now)) }
-    ensures shaped { IsShaped (view_module kernel.now).types shapes.new }
+    requires small { IsSmall context.now.kernel.now }
+    requires local { IsLocalOf (function_in context.now.scope.now) context.now.local.now }
+    requires shaped { IsShaped (view_module context.now.kernel.now).types shapes.old }
+    ensures blocks { IfOk result (λ r. r ≡ map (definition.block_of (view_module context.now.kernel.now) (function_in context.now.scope.now)) (map view_block items.now)) }
+    ensures shaped { IsShaped (view_module context.now.kernel.now).types shapes.new }
 {
     let mut blocks = Seq::new(alloc);
     'each: for block in items {
         let instrs = block.instrs.items.as_slice();
-        let steps = steps_of(alloc, kernel, scope, local, shapes, instrs)?;
+        let steps = steps_of(alloc, context, shapes, instrs)?;
         blocks.push(Block { steps })?;
     }
     Ok(blocks)
@@ -93,7 +90,12 @@ fn code_in(
     ensures shaped { IsShaped (view_module kernel.now).types shapes.new }
 {
     let local = local_in(alloc, scope, function)?;
-    let blocks = blocks_of(alloc, kernel, scope, &local, shapes, blocks_in(function))?;
+    let context = Context {
+        kernel,
+        scope,
+        local: &local,
+    };
+    let blocks = blocks_of(alloc, &context, shapes, blocks_in(function))?;
     let parameters = parameter_count(function)?;
     Ok(Code {
         parameters,

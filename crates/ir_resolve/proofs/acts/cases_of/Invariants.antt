@@ -4,4 +4,4 @@ use Rattle.ir_resolve.specs.Acts.{cases_of}
 use Rattle.ir_resolve.proofs.acts.cases_of.Given as goal
 
 abbrev pub invariant-each : goal.invariant-each
-invariant-each l = l.cases ++ cases_of (function_in l.scope) l.width (drop l.case-index l.items) ≡ cases_of (function_in l.scope) l.width l.items
+invariant-each l = l.cases ++ cases_of (function_in l.context.scope.now) l.width (drop l.case-index l.items) ≡ cases_of (function_in l.context.scope.now) l.width l.items

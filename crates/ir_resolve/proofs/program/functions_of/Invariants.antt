@@ -2,7 +2,7 @@ use Rattle.std.proofs.Common.{◌≡◌, ◌++◌, drop}
 use Rattle.ir_ast.specs.ProgramView.{view_module, view_entries, view_type_entry}
 use Rattle.ir_whole.specs.Numbers.{IsFor}
 use Rattle.ir_resolve.specs.Resolved.{program_of}
-use Rattle.ir_resolve.specs.Shaped.{IsShaped}
+use Rattle.ir_measure.specs.Shaped.{IsShaped}
 use Rattle.ir_resolve.proofs.program.functions_of.Given as goal
 
 abbrev pub invariant-loop-place : goal.invariant-loop-place
