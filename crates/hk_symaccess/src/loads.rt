@@ -53,18 +53,18 @@ fn load_where<R: InitialReads>(
     memory: &SymMemory<R>,
     test: TermId,
     object: u32,
-    at: Location,
+    at: &Location,
     rest: TermId,
 ) -> Result<TermId, AllocError>
     requires over { IsOver t.old memory.now }
     requires test { IsTruth t.old test }
     requires object { object < length memory.now.origins }
-    requires offset { IsWord t.old 64 at.offset }
-    requires bytes { IsWidth at.bytes }
-    requires rest { IsWord t.old (8 * at.bytes) rest }
+    requires offset { IsWord t.old 64 at.now.offset }
+    requires bytes { IsWidth at.now.bytes }
+    requires rest { IsWord t.old (8 * at.now.bytes) rest }
     ensures frame { Extends t.old t.new }
-    ensures word { IfOk result (λ r. IsWord t.new (8 * at.bytes) r) }
-    ensures here { IfOk result (λ r. (v : Reading) → is_true t.old test v ≡ true → value t.old at.offset v + at.bytes ≤ length (object_of (memory_at t.old memory.now v) object) → value t.new r v ≡ number_at at.bytes (value t.old at.offset v) (object_of (memory_at t.old memory.now v) object)) }
+    ensures word { IfOk result (λ r. IsWord t.new (8 * at.now.bytes) r) }
+    ensures here { IfOk result (λ r. (v : Reading) → is_true t.old test v ≡ true → value t.old at.now.offset v + at.now.bytes ≤ length (object_of (memory_at t.old memory.now v) object) → value t.new r v ≡ number_at at.now.bytes (value t.old at.now.offset v) (object_of (memory_at t.old memory.now v) object)) }
     ensures away { IfOk result (λ r. (v : Reading) → is_true t.old test v ≡ false → value t.new r v ≡ value t.old rest v) }
 {
     match constant(t, test) {
@@ -84,19 +84,19 @@ fn load_one<R: InitialReads>(
     t: &mut Terms,
     memory: &SymMemory<R>,
     object: u32,
-    at: Location,
+    at: &Location,
     rest: TermId,
 ) -> Result<TermId, AllocError>
     requires over { IsOver t.old memory.now }
-    requires base { IsWord t.old 64 at.base }
+    requires base { IsWord t.old 64 at.now.base }
     requires object { object < length memory.now.origins }
-    requires offset { IsWord t.old 64 at.offset }
-    requires bytes { IsWidth at.bytes }
-    requires rest { IsWord t.old (8 * at.bytes) rest }
+    requires offset { IsWord t.old 64 at.now.offset }
+    requires bytes { IsWidth at.now.bytes }
+    requires rest { IsWord t.old (8 * at.now.bytes) rest }
     ensures frame { Extends t.old t.new }
-    ensures word { IfOk result (λ r. IsWord t.new (8 * at.bytes) r) }
-    ensures here { IfOk result (λ r. (v : Reading) → nat_eq (value t.old at.base v) (object + 2) ≡ true → value t.old at.offset v + at.bytes ≤ length (object_of (memory_at t.old memory.now v) object) → value t.new r v ≡ number_at at.bytes (value t.old at.offset v) (object_of (memory_at t.old memory.now v) object)) }
-    ensures away { IfOk result (λ r. (v : Reading) → nat_eq (value t.old at.base v) (object + 2) ≡ false → value t.new r v ≡ value t.old rest v) }
+    ensures word { IfOk result (λ r. IsWord t.new (8 * at.now.bytes) r) }
+    ensures here { IfOk result (λ r. (v : Reading) → nat_eq (value t.old at.now.base v) (object + 2) ≡ true → value t.old at.now.offset v + at.now.bytes ≤ length (object_of (memory_at t.old memory.now v) object) → value t.new r v ≡ number_at at.now.bytes (value t.old at.now.offset v) (object_of (memory_at t.old memory.now v) object)) }
+    ensures away { IfOk result (λ r. (v : Reading) → nat_eq (value t.old at.now.base v) (object + 2) ≡ false → value t.new r v ≡ value t.old rest v) }
 {
     let test = is_base(t, at.base, object)?;
     let made = load_where(alloc, t, memory, test, object, at, rest)?;
@@ -109,16 +109,16 @@ fn load_any<R: InitialReads>(
     t: &mut Terms,
     memory: &SymMemory<R>,
     count: u32,
-    at: Location,
+    at: &Location,
 ) -> Result<TermId, AllocError>
     requires over { IsOver t.old memory.now }
     requires count { count ≡ length memory.now.origins }
-    requires base { IsWord t.old 64 at.base }
-    requires offset { IsWord t.old 64 at.offset }
-    requires bytes { IsWidth at.bytes }
+    requires base { IsWord t.old 64 at.now.base }
+    requires offset { IsWord t.old 64 at.now.offset }
+    requires bytes { IsWidth at.now.bytes }
     ensures frame { Extends t.old t.new }
-    ensures word { IfOk result (λ r. IsWord t.new (8 * at.bytes) r) }
-    ensures value { IfOk result (λ r. (v : Reading) → LiesAt (memory_at t.old memory.now v) (value t.old at.base v) (value t.old at.offset v) at.bytes → value t.new r v ≡ number_at at.bytes (value t.old at.offset v) (object_of (memory_at t.old memory.now v) (value t.old at.base v - 2))) }
+    ensures word { IfOk result (λ r. IsWord t.new (8 * at.now.bytes) r) }
+    ensures value { IfOk result (λ r. (v : Reading) → LiesAt (memory_at t.old memory.now v) (value t.old at.now.base v) (value t.old at.now.offset v) at.now.bytes → value t.new r v ≡ number_at at.now.bytes (value t.old at.now.offset v) (object_of (memory_at t.old memory.now v) (value t.old at.now.base v - 2))) }
 {
     let mut made = nothing(t, at.bytes)?;
     for object in 0..count {
@@ -144,17 +144,17 @@ fn load_known<R: InitialReads>(
     memory: &SymMemory<R>,
     count: u32,
     known: u64,
-    at: Location,
+    at: &Location,
 ) -> Result<TermId, AllocError>
     requires over { IsOver t.old memory.now }
     requires count { count ≡ length memory.now.origins }
-    requires base { IsWord t.old 64 at.base }
-    requires known { (v : Reading) → value t.old at.base v ≡ known }
-    requires offset { IsWord t.old 64 at.offset }
-    requires bytes { IsWidth at.bytes }
+    requires base { IsWord t.old 64 at.now.base }
+    requires known { (v : Reading) → value t.old at.now.base v ≡ known }
+    requires offset { IsWord t.old 64 at.now.offset }
+    requires bytes { IsWidth at.now.bytes }
     ensures frame { Extends t.old t.new }
-    ensures word { IfOk result (λ r. IsWord t.new (8 * at.bytes) r) }
-    ensures value { IfOk result (λ r. (v : Reading) → LiesAt (memory_at t.old memory.now v) (value t.old at.base v) (value t.old at.offset v) at.bytes → value t.new r v ≡ number_at at.bytes (value t.old at.offset v) (object_of (memory_at t.old memory.now v) (value t.old at.base v - 2))) }
+    ensures word { IfOk result (λ r. IsWord t.new (8 * at.now.bytes) r) }
+    ensures value { IfOk result (λ r. (v : Reading) → LiesAt (memory_at t.old memory.now v) (value t.old at.now.base v) (value t.old at.now.offset v) at.now.bytes → value t.new r v ≡ number_at at.now.bytes (value t.old at.now.offset v) (object_of (memory_at t.old memory.now v) (value t.old at.now.base v - 2))) }
 {
     let rest = nothing(t, at.bytes)?;
     match object_of(known, count) {
@@ -172,16 +172,16 @@ fn load_number<R: InitialReads>(
     t: &mut Terms,
     memory: &SymMemory<R>,
     count: u32,
-    at: Location,
+    at: &Location,
 ) -> Result<TermId, AllocError>
     requires over { IsOver t.old memory.now }
     requires count { count ≡ length memory.now.origins }
-    requires base { IsWord t.old 64 at.base }
-    requires offset { IsWord t.old 64 at.offset }
-    requires bytes { IsWidth at.bytes }
+    requires base { IsWord t.old 64 at.now.base }
+    requires offset { IsWord t.old 64 at.now.offset }
+    requires bytes { IsWidth at.now.bytes }
     ensures frame { Extends t.old t.new }
-    ensures word { IfOk result (λ r. IsWord t.new (8 * at.bytes) r) }
-    ensures value { IfOk result (λ r. (v : Reading) → LiesAt (memory_at t.old memory.now v) (value t.old at.base v) (value t.old at.offset v) at.bytes → value t.new r v ≡ number_at at.bytes (value t.old at.offset v) (object_of (memory_at t.old memory.now v) (value t.old at.base v - 2))) }
+    ensures word { IfOk result (λ r. IsWord t.new (8 * at.now.bytes) r) }
+    ensures value { IfOk result (λ r. (v : Reading) → LiesAt (memory_at t.old memory.now v) (value t.old at.now.base v) (value t.old at.now.offset v) at.now.bytes → value t.new r v ≡ number_at at.now.bytes (value t.old at.now.offset v) (object_of (memory_at t.old memory.now v) (value t.old at.now.base v - 2))) }
 {
     match constant(t, at.base) {
         Some(known) => load_known(alloc, t, memory, count, known, at),
@@ -196,15 +196,15 @@ fn loaded<R: InitialReads>(
     layout: &Layout,
     objects: &Seq<Object>,
     memory: &SymMemory<R>,
-    access: Access,
+    access: &Access,
 ) -> Result<SymMade, AllocError>
     requires fits { FitsMemory layout.now.objects objects.now memory.now }
     requires over { IsOver t.old memory.now }
-    requires address { IsSym t.old access.address }
-    requires bytes { are_bytes access.bytes ≡ true }
+    requires address { IsSym t.old access.now.address }
+    requires bytes { are_bytes access.now.bytes ≡ true }
     ensures frame { Extends t.old t.new }
     ensures made { IfOk result (λ r. IsMade t.new r) }
-    ensures answers { IfOk result (λ r. (v : Reading) → Answers (is_true t.new r.stuck v) (meaning t.new r.value v) (loaded_number (memory_at t.old memory.now v) objects.now access.bytes access.align (meaning t.old access.address v))) }
+    ensures answers { IfOk result (λ r. (v : Reading) → Answers (is_true t.new r.stuck v) (meaning t.new r.value v) (loaded_number (memory_at t.old memory.now v) objects.now access.now.bytes access.now.align (meaning t.old access.now.address v))) }
 {
     let stuck = access_sticks(t, layout, objects, memory, access)?;
     let offset = offset_of(t, access.address.bits)?;
@@ -214,7 +214,7 @@ fn loaded<R: InitialReads>(
         offset,
         bytes: access.bytes,
     };
-    let number = load_number(alloc, t, memory, count, at)?;
+    let number = load_number(alloc, t, memory, count, &at)?;
     let value = of_term(t, number)?;
     Ok(SymMade { stuck, value })
 }
@@ -247,7 +247,7 @@ pub fn load<R: InitialReads>(
     ensures answers { IfOk result (λ r. (v : Reading) → Answers (is_true t.new r.stuck v) (meaning t.new r.value v) (loaded_number (memory_at t.old memory.now v) objects.now access.bytes access.align (meaning t.old access.address v))) }
 {
     if are_bytes(access.bytes) {
-        loaded(alloc, t, layout, objects, memory, access)
+        loaded(alloc, t, layout, objects, memory, &access)
     } else {
         none_loaded(t)
     }

@@ -34,13 +34,13 @@ pub(crate) fn access_sticks<R: InitialReads>(
     layout: &Layout,
     objects: &Seq<Object>,
     memory: &SymMemory<R>,
-    access: Access,
+    access: &Access,
 ) -> Result<TermId, AllocError>
     requires fits { FitsMemory layout.now.objects objects.now memory.now }
-    requires address { IsSym t.old access.address }
+    requires address { IsSym t.old access.now.address }
     ensures frame { Extends t.old t.new }
     ensures truth { IfOk result (λ r. IsTruth t.new r) }
-    ensures reaches { IfOk result (λ r. (v : Reading) → Reaches (is_true t.new r v) (reached (memory_at t.old memory.now v) objects.now access.bytes access.align (meaning t.old access.address v))) }
+    ensures reaches { IfOk result (λ r. (v : Reading) → Reaches (is_true t.new r v) (reached (memory_at t.old memory.now v) objects.now access.now.bytes access.now.align (meaning t.old access.now.address v))) }
 {
     let size = size_of(t, layout, memory, access.address.base)?;
     let object_align = align_of(t, layout, objects, access.address.base)?;

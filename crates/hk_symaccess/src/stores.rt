@@ -37,19 +37,19 @@ fn write_where<R: InitialReads>(
     memory: &mut SymMemory<R>,
     test: TermId,
     object: u32,
-    at: Location,
+    at: &Location,
     number: TermId,
 ) -> Result<(), AllocError>
     requires over { IsOver t.now memory.old }
     requires test { IsTruth t.now test }
     requires object { IsMutable memory.old object }
-    requires offset { IsWord t.now 64 at.offset }
-    requires bytes { IsWidth at.bytes }
-    requires number { IsWord t.now (8 * at.bytes) number }
-    requires inside { (v : Reading) → is_true t.now test v ≡ true → value t.now at.offset v + at.bytes ≤ length (object_of (memory_at t.now memory.old v) object) }
+    requires offset { IsWord t.now 64 at.now.offset }
+    requires bytes { IsWidth at.now.bytes }
+    requires number { IsWord t.now (8 * at.now.bytes) number }
+    requires inside { (v : Reading) → is_true t.now test v ≡ true → value t.now at.now.offset v + at.now.bytes ≤ length (object_of (memory_at t.now memory.old v) object) }
     ensures origins { memory.new.origins ≡ memory.old.origins }
     ensures over { IfOk result (λ _. IsOver t.now memory.new) }
-    ensures value { IfOk result (λ _. (v : Reading) → memory_at t.now memory.new v ≡ (if is_true t.now test v then write_to (memory_at t.now memory.old v) at.bytes object (value t.now at.offset v) (value t.now number v) else memory_at t.now memory.old v)) }
+    ensures value { IfOk result (λ _. (v : Reading) → memory_at t.now memory.new v ≡ (if is_true t.now test v then write_to (memory_at t.now memory.old v) at.now.bytes object (value t.now at.now.offset v) (value t.now number v) else memory_at t.now memory.old v)) }
 {
     match constant(t, test) {
         Some(0) => Ok(()),
@@ -68,29 +68,29 @@ fn write_one<R: InitialReads>(
     objects: &Seq<Object>,
     memory: &mut SymMemory<R>,
     object: u32,
-    write: Write,
+    write: &Write,
 ) -> Result<(), AllocError>
     requires fits { FitsMemory layout.now.objects objects.now memory.old }
     requires over { IsOver t.old memory.old }
-    requires go { IsTruth t.old write.go }
-    requires base { IsWord t.old 64 write.at.base }
+    requires go { IsTruth t.old write.now.go }
+    requires base { IsWord t.old 64 write.now.at.base }
     requires object { object < length layout.now.objects }
-    requires offset { IsWord t.old 64 write.at.offset }
-    requires bytes { IsWidth write.at.bytes }
-    requires number { IsWord t.old (8 * write.at.bytes) write.number }
-    requires inside { (v : Reading) → is_true t.old write.go v ≡ true → nat_eq (value t.old write.at.base v) (object + 2) ≡ true → value t.old write.at.offset v + write.at.bytes ≤ length (object_of (memory_at t.old memory.old v) object) }
-    requires mutable { (v : Reading) → is_true t.old write.go v ≡ true → nat_eq (value t.old write.at.base v) (object + 2) ≡ true → (object_at objects.now object).constant ≡ false }
+    requires offset { IsWord t.old 64 write.now.at.offset }
+    requires bytes { IsWidth write.now.at.bytes }
+    requires number { IsWord t.old (8 * write.now.at.bytes) write.now.number }
+    requires inside { (v : Reading) → is_true t.old write.now.go v ≡ true → nat_eq (value t.old write.now.at.base v) (object + 2) ≡ true → value t.old write.now.at.offset v + write.now.at.bytes ≤ length (object_of (memory_at t.old memory.old v) object) }
+    requires mutable { (v : Reading) → is_true t.old write.now.go v ≡ true → nat_eq (value t.old write.now.at.base v) (object + 2) ≡ true → (object_at objects.now object).constant ≡ false }
     ensures frame { Extends t.old t.new }
     ensures origins { memory.new.origins ≡ memory.old.origins }
     ensures over { IfOk result (λ _. IsOver t.new memory.new) }
-    ensures value { IfOk result (λ _. (v : Reading) → memory_at t.new memory.new v ≡ (if is_true t.old write.go v && nat_eq (value t.old write.at.base v) (object + 2) then write_to (memory_at t.old memory.old v) write.at.bytes object (value t.old write.at.offset v) (value t.old write.number v) else memory_at t.old memory.old v)) }
+    ensures value { IfOk result (λ _. (v : Reading) → memory_at t.new memory.new v ≡ (if is_true t.old write.now.go v && nat_eq (value t.old write.now.at.base v) (object + 2) then write_to (memory_at t.old memory.old v) write.now.at.bytes object (value t.old write.now.at.offset v) (value t.old write.now.number v) else memory_at t.old memory.old v)) }
 {
     let test = is_base(t, write.at.base, object)?;
     let both = logic::and(t, write.go, test)?;
     if object_at(objects, object).constant {
         Ok(())
     } else {
-        write_where(t, memory, both, object, write.at, write.number)?;
+        write_where(t, memory, both, object, &write.at, write.number)?;
         Ok(())
     }
 }
@@ -101,20 +101,20 @@ fn write_any<R: InitialReads>(
     layout: &Layout,
     objects: &Seq<Object>,
     memory: &mut SymMemory<R>,
-    write: Write,
+    write: &Write,
 ) -> Result<(), AllocError>
     requires fits { FitsMemory layout.now.objects objects.now memory.old }
     requires over { IsOver t.old memory.old }
-    requires go { IsTruth t.old write.go }
-    requires base { IsWord t.old 64 write.at.base }
-    requires offset { IsWord t.old 64 write.at.offset }
-    requires bytes { IsWidth write.at.bytes }
-    requires number { IsWord t.old (8 * write.at.bytes) write.number }
-    requires lies { (v : Reading) → is_true t.old write.go v ≡ true → nat_le (value t.old write.at.base v) 1 ≡ false → MayWrite (memory_at t.old memory.old v) objects.now (value t.old write.at.base v) (value t.old write.at.offset v) write.at.bytes }
+    requires go { IsTruth t.old write.now.go }
+    requires base { IsWord t.old 64 write.now.at.base }
+    requires offset { IsWord t.old 64 write.now.at.offset }
+    requires bytes { IsWidth write.now.at.bytes }
+    requires number { IsWord t.old (8 * write.now.at.bytes) write.now.number }
+    requires lies { (v : Reading) → is_true t.old write.now.go v ≡ true → nat_le (value t.old write.now.at.base v) 1 ≡ false → MayWrite (memory_at t.old memory.old v) objects.now (value t.old write.now.at.base v) (value t.old write.now.at.offset v) write.now.at.bytes }
     ensures frame { Extends t.old t.new }
     ensures origins { memory.new.origins ≡ memory.old.origins }
     ensures over { IfOk result (λ _. IsOver t.new memory.new) }
-    ensures value { IfOk result (λ _. (v : Reading) → memory_at t.new memory.new v ≡ written_up_to (length layout.now.objects) (is_true t.old write.go v) (memory_at t.old memory.old v) (value t.old write.at.base v) (value t.old write.at.offset v) write.at.bytes (value t.old write.number v)) }
+    ensures value { IfOk result (λ _. (v : Reading) → memory_at t.new memory.new v ≡ written_up_to (length layout.now.objects) (is_true t.old write.now.go v) (memory_at t.old memory.old v) (value t.old write.now.at.base v) (value t.old write.now.at.offset v) write.now.at.bytes (value t.old write.now.number v)) }
 {
     for object in 0..layout.objects() {
         write_one(t, layout, objects, memory, object, write)?;
@@ -129,21 +129,21 @@ fn write_known<R: InitialReads>(
     objects: &Seq<Object>,
     memory: &mut SymMemory<R>,
     known: u64,
-    write: Write,
+    write: &Write,
 ) -> Result<(), AllocError>
     requires fits { FitsMemory layout.now.objects objects.now memory.old }
     requires over { IsOver t.old memory.old }
-    requires go { IsTruth t.old write.go }
-    requires base { IsWord t.old 64 write.at.base }
-    requires known { (v : Reading) → value t.old write.at.base v ≡ known }
-    requires offset { IsWord t.old 64 write.at.offset }
-    requires bytes { IsWidth write.at.bytes }
-    requires number { IsWord t.old (8 * write.at.bytes) write.number }
-    requires lies { (v : Reading) → is_true t.old write.go v ≡ true → nat_le (value t.old write.at.base v) 1 ≡ false → MayWrite (memory_at t.old memory.old v) objects.now (value t.old write.at.base v) (value t.old write.at.offset v) write.at.bytes }
+    requires go { IsTruth t.old write.now.go }
+    requires base { IsWord t.old 64 write.now.at.base }
+    requires known { (v : Reading) → value t.old write.now.at.base v ≡ known }
+    requires offset { IsWord t.old 64 write.now.at.offset }
+    requires bytes { IsWidth write.now.at.bytes }
+    requires number { IsWord t.old (8 * write.now.at.bytes) write.now.number }
+    requires lies { (v : Reading) → is_true t.old write.now.go v ≡ true → nat_le (value t.old write.now.at.base v) 1 ≡ false → MayWrite (memory_at t.old memory.old v) objects.now (value t.old write.now.at.base v) (value t.old write.now.at.offset v) write.now.at.bytes }
     ensures frame { Extends t.old t.new }
     ensures origins { memory.new.origins ≡ memory.old.origins }
     ensures over { IfOk result (λ _. IsOver t.new memory.new) }
-    ensures value { IfOk result (λ _. (v : Reading) → memory_at t.new memory.new v ≡ written_up_to (length layout.now.objects) (is_true t.old write.go v) (memory_at t.old memory.old v) (value t.old write.at.base v) (value t.old write.at.offset v) write.at.bytes (value t.old write.number v)) }
+    ensures value { IfOk result (λ _. (v : Reading) → memory_at t.new memory.new v ≡ written_up_to (length layout.now.objects) (is_true t.old write.now.go v) (memory_at t.old memory.old v) (value t.old write.now.at.base v) (value t.old write.now.at.offset v) write.now.at.bytes (value t.old write.now.number v)) }
 {
     match object_of(known, layout.objects()) {
         Some(object) => {
@@ -160,20 +160,20 @@ fn write_number<R: InitialReads>(
     layout: &Layout,
     objects: &Seq<Object>,
     memory: &mut SymMemory<R>,
-    write: Write,
+    write: &Write,
 ) -> Result<(), AllocError>
     requires fits { FitsMemory layout.now.objects objects.now memory.old }
     requires over { IsOver t.old memory.old }
-    requires go { IsTruth t.old write.go }
-    requires base { IsWord t.old 64 write.at.base }
-    requires offset { IsWord t.old 64 write.at.offset }
-    requires bytes { IsWidth write.at.bytes }
-    requires number { IsWord t.old (8 * write.at.bytes) write.number }
-    requires lies { (v : Reading) → is_true t.old write.go v ≡ true → nat_le (value t.old write.at.base v) 1 ≡ false → MayWrite (memory_at t.old memory.old v) objects.now (value t.old write.at.base v) (value t.old write.at.offset v) write.at.bytes }
+    requires go { IsTruth t.old write.now.go }
+    requires base { IsWord t.old 64 write.now.at.base }
+    requires offset { IsWord t.old 64 write.now.at.offset }
+    requires bytes { IsWidth write.now.at.bytes }
+    requires number { IsWord t.old (8 * write.now.at.bytes) write.now.number }
+    requires lies { (v : Reading) → is_true t.old write.now.go v ≡ true → nat_le (value t.old write.now.at.base v) 1 ≡ false → MayWrite (memory_at t.old memory.old v) objects.now (value t.old write.now.at.base v) (value t.old write.now.at.offset v) write.now.at.bytes }
     ensures frame { Extends t.old t.new }
     ensures origins { memory.new.origins ≡ memory.old.origins }
     ensures over { IfOk result (λ _. IsOver t.new memory.new) }
-    ensures value { IfOk result (λ _. (v : Reading) → memory_at t.new memory.new v ≡ written_up_to (length layout.now.objects) (is_true t.old write.go v) (memory_at t.old memory.old v) (value t.old write.at.base v) (value t.old write.at.offset v) write.at.bytes (value t.old write.number v)) }
+    ensures value { IfOk result (λ _. (v : Reading) → memory_at t.new memory.new v ≡ written_up_to (length layout.now.objects) (is_true t.old write.now.go v) (memory_at t.old memory.old v) (value t.old write.now.at.base v) (value t.old write.now.at.offset v) write.now.at.bytes (value t.old write.now.number v)) }
 {
     match constant(t, write.at.base) {
         Some(known) => write_known(t, layout, objects, memory, known, write),
@@ -188,17 +188,17 @@ fn store_sticks<R: InitialReads>(
     objects: &Seq<Object>,
     memory: &SymMemory<R>,
     given: SymValue,
-    access: Access,
+    access: &Access,
 ) -> Result<TermId, AllocError>
     requires fits { FitsMemory layout.now.objects objects.now memory.now }
     requires given { IsSym t.old given }
-    requires address { IsSym t.old access.address }
-    requires bytes { are_bytes access.bytes ≡ true }
-    requires align { access.align ≢ 0 }
+    requires address { IsSym t.old access.now.address }
+    requires bytes { are_bytes access.now.bytes ≡ true }
+    requires align { access.now.align ≢ 0 }
     ensures frame { Extends t.old t.new }
     ensures truth { IfOk result (λ r. IsTruth t.new r) }
-    ensures refuses { IfOk result (λ r. (v : Reading) → Refuses (is_true t.new r v) (stored (memory_at t.old memory.now v) objects.now access.bytes access.align (Some (meaning t.old given v)) (Some (meaning t.old access.address v)))) }
-    ensures lies { IfOk result (λ r. (v : Reading) → is_true t.new r v ≡ false → nat_le (value t.old access.address.base v) 1 ≡ false → MayWrite (memory_at t.old memory.now v) objects.now (value t.old access.address.base v) (value t.old access.address.bits v) access.bytes) }
+    ensures refuses { IfOk result (λ r. (v : Reading) → Refuses (is_true t.new r v) (stored (memory_at t.old memory.now v) objects.now access.now.bytes access.now.align (Some (meaning t.old given v)) (Some (meaning t.old access.now.address v)))) }
+    ensures lies { IfOk result (λ r. (v : Reading) → is_true t.new r v ≡ false → nat_le (value t.old access.now.address.base v) 1 ≡ false → MayWrite (memory_at t.old memory.now v) objects.now (value t.old access.now.address.base v) (value t.old access.now.address.bits v) access.now.bytes) }
 {
     let nowhere = access_sticks(t, layout, objects, memory, access)?;
     let fixed = is_fixed(t, layout, objects, access.address.base)?;
@@ -226,20 +226,20 @@ fn write_value<R: InitialReads>(
     layout: &Layout,
     objects: &Seq<Object>,
     memory: &mut SymMemory<R>,
-    store: Store,
+    store: &Store,
 ) -> Result<(), AllocError>
     requires fits { FitsMemory layout.now.objects objects.now memory.old }
     requires over { IsOver t.old memory.old }
-    requires go { IsTruth t.old store.guard }
-    requires number { store.value.bits < length t.old }
-    requires base { IsWord t.old 64 store.access.address.base }
-    requires place { store.access.address.bits < length t.old }
-    requires bytes { IsWidth store.access.bytes }
-    requires lies { (v : Reading) → is_true t.old store.guard v ≡ true → nat_le (value t.old store.access.address.base v) 1 ≡ false → MayWrite (memory_at t.old memory.old v) objects.now (value t.old store.access.address.base v) (value t.old store.access.address.bits v) store.access.bytes }
+    requires go { IsTruth t.old store.now.guard }
+    requires number { store.now.value.bits < length t.old }
+    requires base { IsWord t.old 64 store.now.access.address.base }
+    requires place { store.now.access.address.bits < length t.old }
+    requires bytes { IsWidth store.now.access.bytes }
+    requires lies { (v : Reading) → is_true t.old store.now.guard v ≡ true → nat_le (value t.old store.now.access.address.base v) 1 ≡ false → MayWrite (memory_at t.old memory.old v) objects.now (value t.old store.now.access.address.base v) (value t.old store.now.access.address.bits v) store.now.access.bytes }
     ensures frame { Extends t.old t.new }
     ensures origins { memory.new.origins ≡ memory.old.origins }
     ensures over { IfOk result (λ _. IsOver t.new memory.new) }
-    ensures value { IfOk result (λ _. (v : Reading) → memory_at t.new memory.new v ≡ written_up_to (length layout.now.objects) (is_true t.old store.guard v) (memory_at t.old memory.old v) (value t.old store.access.address.base v) (value t.old store.access.address.bits v) store.access.bytes (value t.old store.value.bits v % 2 ^ (8 * store.access.bytes))) }
+    ensures value { IfOk result (λ _. (v : Reading) → memory_at t.new memory.new v ≡ written_up_to (length layout.now.objects) (is_true t.old store.now.guard v) (memory_at t.old memory.old v) (value t.old store.now.access.address.base v) (value t.old store.now.access.address.bits v) store.now.access.bytes (value t.old store.now.value.bits v % 2 ^ (8 * store.now.access.bytes))) }
 {
     let offset = offset_of(t, store.access.address.bits)?;
     let number = at_width(t, 8 * store.access.bytes, store.value.bits)?;
@@ -253,7 +253,7 @@ fn write_value<R: InitialReads>(
         at,
         number,
     };
-    write_number(t, layout, objects, memory, write)?;
+    write_number(t, layout, objects, memory, &write)?;
     Ok(())
 }
 
@@ -263,30 +263,30 @@ fn stored<R: InitialReads>(
     layout: &Layout,
     objects: &Seq<Object>,
     memory: &mut SymMemory<R>,
-    store: Store,
+    store: &Store,
 ) -> Result<TermId, AllocError>
     requires fits { FitsMemory layout.now.objects objects.now memory.old }
     requires over { IsOver t.old memory.old }
-    requires guard { IsTruth t.old store.guard }
-    requires value { IsSym t.old store.value }
-    requires address { IsSym t.old store.access.address }
-    requires bytes { are_bytes store.access.bytes ≡ true }
-    requires align { store.access.align ≢ 0 }
+    requires guard { IsTruth t.old store.now.guard }
+    requires value { IsSym t.old store.now.value }
+    requires address { IsSym t.old store.now.access.address }
+    requires bytes { are_bytes store.now.access.bytes ≡ true }
+    requires align { store.now.access.align ≢ 0 }
     ensures frame { Extends t.old t.new }
     ensures origins { memory.new.origins ≡ memory.old.origins }
     ensures over { IfOk result (λ _. IsOver t.new memory.new) }
     ensures truth { IfOk result (λ r. IsTruth t.new r) }
-    ensures away { IfOk result (λ _. (v : Reading) → is_true t.old store.guard v ≡ false → memory_at t.new memory.new v ≡ memory_at t.old memory.old v) }
-    ensures here { IfOk result (λ r. (v : Reading) → is_true t.old store.guard v ≡ true → Stores (is_true t.new r v) (memory_at t.new memory.new v) (memory_at t.old memory.old v) store.access.bytes (stored (memory_at t.old memory.old v) objects.now store.access.bytes store.access.align (Some (meaning t.old store.value v)) (Some (meaning t.old store.access.address v)))) }
+    ensures away { IfOk result (λ _. (v : Reading) → is_true t.old store.now.guard v ≡ false → memory_at t.new memory.new v ≡ memory_at t.old memory.old v) }
+    ensures here { IfOk result (λ r. (v : Reading) → is_true t.old store.now.guard v ≡ true → Stores (is_true t.new r v) (memory_at t.new memory.new v) (memory_at t.old memory.old v) store.now.access.bytes (stored (memory_at t.old memory.old v) objects.now store.now.access.bytes store.now.access.align (Some (meaning t.old store.now.value v)) (Some (meaning t.old store.now.access.address v)))) }
 {
-    let stuck = store_sticks(t, layout, objects, memory, store.value, store.access)?;
+    let stuck = store_sticks(t, layout, objects, memory, store.value, &store.access)?;
     let go = goes_on(t, store.guard, stuck)?;
     let passing = Store {
         guard: go,
         value: store.value,
         access: store.access,
     };
-    write_value(t, layout, objects, memory, passing)?;
+    write_value(t, layout, objects, memory, &passing)?;
     Ok(stuck)
 }
 
@@ -318,7 +318,7 @@ pub fn store<R: InitialReads>(
         let stuck = logic::constant(t, true)?;
         Ok(stuck)
     } else if are_bytes(store.access.bytes) {
-        stored(t, layout, objects, memory, store)
+        stored(t, layout, objects, memory, &store)
     } else {
         let stuck = logic::constant(t, true)?;
         Ok(stuck)
