@@ -1,9 +1,9 @@
-//! What a load and a store are given.
+//! What is loaded and stored: accesses at pointers, and the places that they come to.
 
 use hk_symvalue::SymValue;
 use hk_term::TermId;
 
-/// An access: how many bytes, at what alignment in bytes, and at what pointer.
+/// An access: how many bytes, at what alignment in bytes, and through what pointer.
 #[derive(Clone, Copy)]
 pub struct Access {
     pub bytes: u32,
@@ -11,7 +11,7 @@ pub struct Access {
     pub address: SymValue,
 }
 
-/// What a store writes: where its guard is true, the low bytes of a number.
+/// A store: where its guard is true, the low bytes of a number are written. The guard is a truth value.
 #[derive(Clone, Copy)]
 pub struct Store {
     pub guard: TermId,
@@ -19,7 +19,7 @@ pub struct Store {
     pub access: Access,
 }
 
-// So many bytes at a base, from an offset of 64 bits on.
+/// So many bytes of memory at a base, from an offset on. Both are terms of width 64.
 #[derive(Clone, Copy)]
 pub(crate) struct Location {
     pub(crate) base: TermId,

@@ -23,7 +23,7 @@ use ir_code::Object;
 use ir_layout::Layout;
 use std::alloc::AllocError;
 
-// A number that is written at a base where a test is true.
+// A number that is written where a test is true: `number` has the width of the bytes that it goes to.
 #[derive(Clone, Copy)]
 struct Write {
     go: TermId,

@@ -53,7 +53,7 @@ fn binary<R: InitialReads>(
     flags: Flags,
     kind: BinaryKind,
     width: u32,
-    inputs: Inputs,
+    inputs: &Inputs,
 ) -> Result<SymComputed, AllocError>
     requires layout { IsMemoryOf state.now.layout.now.objects state.now.memory.now }
     requires whole { AreWhole state.now.layout.now.objects }
@@ -61,7 +61,7 @@ fn binary<R: InitialReads>(
     requires file { IsFile t.old state.now.file.now }
     ensures frame { Extends t.old t.new }
     ensures within { IfOk result (λ r. IsComputed t.new r) }
-    ensures answers { IfOk result (λ r. (v : Reading) → AnswersComputed t.new v r (definition.on_two (binary flags kind width) (definition.value_of (memory_at t.old state.now.memory.now v) (registers_of t.old v state.now.file.now) inputs.a.now) (definition.value_of (memory_at t.old state.now.memory.now v) (registers_of t.old v state.now.file.now) inputs.b.now))) }
+    ensures answers { IfOk result (λ r. (v : Reading) → AnswersComputed t.new v r (definition.on_two (binary flags kind width) (definition.value_of (memory_at t.old state.now.memory.now v) (registers_of t.old v state.now.file.now) inputs.now.a.now) (definition.value_of (memory_at t.old state.now.memory.now v) (registers_of t.old v state.now.file.now) inputs.now.b.now))) }
 {
     let operands = two(t, state.layout, state.memory, state.file, inputs)?;
     let made = rows::binary(t, flags, kind, width, operands.a, operands.b)?;
@@ -73,7 +73,7 @@ fn compare<R: InitialReads>(
     state: &State<R>,
     predicate: Predicate,
     width: u32,
-    inputs: Inputs,
+    inputs: &Inputs,
 ) -> Result<SymComputed, AllocError>
     requires layout { IsMemoryOf state.now.layout.now.objects state.now.memory.now }
     requires whole { AreWhole state.now.layout.now.objects }
@@ -81,7 +81,7 @@ fn compare<R: InitialReads>(
     requires file { IsFile t.old state.now.file.now }
     ensures frame { Extends t.old t.new }
     ensures within { IfOk result (λ r. IsComputed t.new r) }
-    ensures answers { IfOk result (λ r. (v : Reading) → AnswersComputed t.new v r (definition.on_two (compare_numbers predicate width) (definition.value_of (memory_at t.old state.now.memory.now v) (registers_of t.old v state.now.file.now) inputs.a.now) (definition.value_of (memory_at t.old state.now.memory.now v) (registers_of t.old v state.now.file.now) inputs.b.now))) }
+    ensures answers { IfOk result (λ r. (v : Reading) → AnswersComputed t.new v r (definition.on_two (compare_numbers predicate width) (definition.value_of (memory_at t.old state.now.memory.now v) (registers_of t.old v state.now.file.now) inputs.now.a.now) (definition.value_of (memory_at t.old state.now.memory.now v) (registers_of t.old v state.now.file.now) inputs.now.b.now))) }
 {
     let operands = two(t, state.layout, state.memory, state.file, inputs)?;
     let made = rows::compare(t, predicate, width, operands.a, operands.b)?;
@@ -92,7 +92,7 @@ fn compare_pointers<R: InitialReads>(
     t: &mut Terms,
     state: &State<R>,
     predicate: Predicate,
-    inputs: Inputs,
+    inputs: &Inputs,
 ) -> Result<SymComputed, AllocError>
     requires layout { IsMemoryOf state.now.layout.now.objects state.now.memory.now }
     requires whole { AreWhole state.now.layout.now.objects }
@@ -100,7 +100,7 @@ fn compare_pointers<R: InitialReads>(
     requires file { IsFile t.old state.now.file.now }
     ensures frame { Extends t.old t.new }
     ensures within { IfOk result (λ r. IsComputed t.new r) }
-    ensures answers { IfOk result (λ r. (v : Reading) → AnswersComputed t.new v r (definition.on_two (definition.compare_sized (memory_at t.old state.now.memory.now v) predicate) (definition.value_of (memory_at t.old state.now.memory.now v) (registers_of t.old v state.now.file.now) inputs.a.now) (definition.value_of (memory_at t.old state.now.memory.now v) (registers_of t.old v state.now.file.now) inputs.b.now))) }
+    ensures answers { IfOk result (λ r. (v : Reading) → AnswersComputed t.new v r (definition.on_two (definition.compare_sized (memory_at t.old state.now.memory.now v) predicate) (definition.value_of (memory_at t.old state.now.memory.now v) (registers_of t.old v state.now.file.now) inputs.now.a.now) (definition.value_of (memory_at t.old state.now.memory.now v) (registers_of t.old v state.now.file.now) inputs.now.b.now))) }
 {
     let operands = two(t, state.layout, state.memory, state.file, inputs)?;
     let made = rows::compare_pointers(
@@ -118,7 +118,7 @@ fn select<R: InitialReads>(
     t: &mut Terms,
     state: &State<R>,
     condition: &Input,
-    inputs: Inputs,
+    inputs: &Inputs,
 ) -> Result<SymComputed, AllocError>
     requires layout { IsMemoryOf state.now.layout.now.objects state.now.memory.now }
     requires whole { AreWhole state.now.layout.now.objects }
@@ -126,7 +126,7 @@ fn select<R: InitialReads>(
     requires file { IsFile t.old state.now.file.now }
     ensures frame { Extends t.old t.new }
     ensures within { IfOk result (λ r. IsComputed t.new r) }
-    ensures answers { IfOk result (λ r. (v : Reading) → AnswersComputed t.new v r (definition.on_three select (definition.value_of (memory_at t.old state.now.memory.now v) (registers_of t.old v state.now.file.now) condition.now) (definition.value_of (memory_at t.old state.now.memory.now v) (registers_of t.old v state.now.file.now) inputs.a.now) (definition.value_of (memory_at t.old state.now.memory.now v) (registers_of t.old v state.now.file.now) inputs.b.now))) }
+    ensures answers { IfOk result (λ r. (v : Reading) → AnswersComputed t.new v r (definition.on_three select (definition.value_of (memory_at t.old state.now.memory.now v) (registers_of t.old v state.now.file.now) condition.now) (definition.value_of (memory_at t.old state.now.memory.now v) (registers_of t.old v state.now.file.now) inputs.now.a.now) (definition.value_of (memory_at t.old state.now.memory.now v) (registers_of t.old v state.now.file.now) inputs.now.b.now))) }
 {
     let value = operand(t, state.layout, state.memory, state.file, condition)?;
     let operands = two(t, state.layout, state.memory, state.file, inputs)?;
@@ -195,7 +195,7 @@ fn load<R: InitialReads>(
     alloc: Global,
     t: &mut Terms,
     state: &State<R>,
-    load: Load,
+    load: &Load,
     address: &Input,
 ) -> Result<SymComputed, AllocError>
     requires fits { FitsMemory state.now.layout.now.objects state.now.objects.now state.now.memory.now }
@@ -203,7 +203,7 @@ fn load<R: InitialReads>(
     requires file { IsFile t.old state.now.file.now }
     ensures frame { Extends t.old t.new }
     ensures within { IfOk result (λ r. IsComputed t.new r) }
-    ensures answers { IfOk result (λ r. (v : Reading) → AnswersComputed t.new v r (definition.loaded (memory_at t.old state.now.memory.now v) state.now.objects.now load.width load.bytes load.align load.spans.now (definition.value_of (memory_at t.old state.now.memory.now v) (registers_of t.old v state.now.file.now) address.now))) }
+    ensures answers { IfOk result (λ r. (v : Reading) → AnswersComputed t.new v r (definition.loaded (memory_at t.old state.now.memory.now v) state.now.objects.now load.now.width load.now.bytes load.now.align load.now.spans.now (definition.value_of (memory_at t.old state.now.memory.now v) (registers_of t.old v state.now.file.now) address.now))) }
 {
     let value = operand(t, state.layout, state.memory, state.file, address)?;
     let made = loads::loaded(
@@ -224,7 +224,7 @@ fn overflow<R: InitialReads>(
     kind: OverflowKind,
     signed: bool,
     width: u32,
-    inputs: Inputs,
+    inputs: &Inputs,
 ) -> Result<SymComputed, AllocError>
     requires layout { IsMemoryOf state.now.layout.now.objects state.now.memory.now }
     requires whole { AreWhole state.now.layout.now.objects }
@@ -232,7 +232,7 @@ fn overflow<R: InitialReads>(
     requires file { IsFile t.old state.now.file.now }
     ensures frame { Extends t.old t.new }
     ensures within { IfOk result (λ r. IsComputed t.new r) }
-    ensures answers { IfOk result (λ r. (v : Reading) → AnswersComputed t.new v r (definition.on_pair (with_overflow kind signed width) (definition.value_of (memory_at t.old state.now.memory.now v) (registers_of t.old v state.now.file.now) inputs.a.now) (definition.value_of (memory_at t.old state.now.memory.now v) (registers_of t.old v state.now.file.now) inputs.b.now))) }
+    ensures answers { IfOk result (λ r. (v : Reading) → AnswersComputed t.new v r (definition.on_pair (with_overflow kind signed width) (definition.value_of (memory_at t.old state.now.memory.now v) (registers_of t.old v state.now.file.now) inputs.now.a.now) (definition.value_of (memory_at t.old state.now.memory.now v) (registers_of t.old v state.now.file.now) inputs.now.b.now))) }
 {
     let operands = two(t, state.layout, state.memory, state.file, inputs)?;
     let made = rows::overflow(t, kind, signed, width, operands.a, operands.b)?;
@@ -244,7 +244,7 @@ fn pair<R: InitialReads>(
     state: &State<R>,
     kind: PairKind,
     width: u32,
-    inputs: Inputs,
+    inputs: &Inputs,
 ) -> Result<SymComputed, AllocError>
     requires layout { IsMemoryOf state.now.layout.now.objects state.now.memory.now }
     requires whole { AreWhole state.now.layout.now.objects }
@@ -252,7 +252,7 @@ fn pair<R: InitialReads>(
     requires file { IsFile t.old state.now.file.now }
     ensures frame { Extends t.old t.new }
     ensures within { IfOk result (λ r. IsComputed t.new r) }
-    ensures answers { IfOk result (λ r. (v : Reading) → AnswersComputed t.new v r (definition.on_two (pair kind width) (definition.value_of (memory_at t.old state.now.memory.now v) (registers_of t.old v state.now.file.now) inputs.a.now) (definition.value_of (memory_at t.old state.now.memory.now v) (registers_of t.old v state.now.file.now) inputs.b.now))) }
+    ensures answers { IfOk result (λ r. (v : Reading) → AnswersComputed t.new v r (definition.on_two (pair kind width) (definition.value_of (memory_at t.old state.now.memory.now v) (registers_of t.old v state.now.file.now) inputs.now.a.now) (definition.value_of (memory_at t.old state.now.memory.now v) (registers_of t.old v state.now.file.now) inputs.now.b.now))) }
 {
     let operands = two(t, state.layout, state.memory, state.file, inputs)?;
     let made = rows::pair(t, kind, width, operands.a, operands.b)?;
@@ -346,17 +346,17 @@ fn given<R: InitialReads>(
             width,
             a,
             b,
-        } => binary(t, state, *flags, *kind, *width, Inputs { a, b }),
+        } => binary(t, state, *flags, *kind, *width, &Inputs { a, b }),
         Act::Compare {
             predicate,
             width,
             a,
             b,
-        } => compare(t, state, *predicate, *width, Inputs { a, b }),
+        } => compare(t, state, *predicate, *width, &Inputs { a, b }),
         Act::ComparePointers { predicate, a, b } => {
-            compare_pointers(t, state, *predicate, Inputs { a, b })
+            compare_pointers(t, state, *predicate, &Inputs { a, b })
         }
-        Act::Select { condition, a, b } => select(t, state, condition, Inputs { a, b }),
+        Act::Select { condition, a, b } => select(t, state, condition, &Inputs { a, b }),
         Act::Convert {
             kind,
             nneg,
@@ -386,7 +386,7 @@ fn given<R: InitialReads>(
                 align: *align,
                 spans,
             };
-            load(alloc, t, state, typed, address)
+            load(alloc, t, state, &typed, address)
         }
         Act::LoadSlot {
             width,
@@ -400,8 +400,8 @@ fn given<R: InitialReads>(
             width,
             a,
             b,
-        } => overflow(t, state, *kind, *signed, *width, Inputs { a, b }),
-        Act::Pair { kind, width, a, b } => pair(t, state, *kind, *width, Inputs { a, b }),
+        } => overflow(t, state, *kind, *signed, *width, &Inputs { a, b }),
+        Act::Pair { kind, width, a, b } => pair(t, state, *kind, *width, &Inputs { a, b }),
         Act::Assume { condition } => assume(t, state, condition),
         Act::Extract { pair, part } => extract(t, state.file, *pair, *part),
         Act::Hook { arguments } => hook(t, state, arguments.as_slice()),

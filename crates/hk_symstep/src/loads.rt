@@ -65,7 +65,7 @@ fn loaded_at<R: InitialReads>(
     layout: &Layout,
     objects: &Seq<Object>,
     memory: &SymMemory<R>,
-    load: Load,
+    load: &Load,
     address: SymValue,
 ) -> Result<SymComputed, AllocError>
     requires fits { FitsMemory layout.now.objects objects.now memory.now }
@@ -73,7 +73,7 @@ fn loaded_at<R: InitialReads>(
     requires address { IsSym t.old address }
     ensures frame { Extends t.old t.new }
     ensures within { IfOk result (λ r. IsComputed t.new r) }
-    ensures answers { IfOk result (λ r. (v : Reading) → AnswersComputed t.new v r (definition.loaded (memory_at t.old memory.now v) objects.now load.width load.bytes load.align load.spans.now (Some (meaning t.old address v)))) }
+    ensures answers { IfOk result (λ r. (v : Reading) → AnswersComputed t.new v r (definition.loaded (memory_at t.old memory.now v) objects.now load.now.width load.now.bytes load.now.align load.now.spans.now (Some (meaning t.old address v)))) }
 {
     let access = Access {
         bytes: load.bytes,
@@ -91,7 +91,7 @@ pub(crate) fn loaded<R: InitialReads>(
     layout: &Layout,
     objects: &Seq<Object>,
     memory: &SymMemory<R>,
-    load: Load,
+    load: &Load,
     address: Option<SymValue>,
 ) -> Result<SymComputed, AllocError>
     requires fits { FitsMemory layout.now.objects objects.now memory.now }
@@ -99,7 +99,7 @@ pub(crate) fn loaded<R: InitialReads>(
     requires address { IsOperand t.old address }
     ensures frame { Extends t.old t.new }
     ensures within { IfOk result (λ r. IsComputed t.new r) }
-    ensures answers { IfOk result (λ r. (v : Reading) → AnswersComputed t.new v r (definition.loaded (memory_at t.old memory.now v) objects.now load.width load.bytes load.align load.spans.now (value_meaning t.old v address))) }
+    ensures answers { IfOk result (λ r. (v : Reading) → AnswersComputed t.new v r (definition.loaded (memory_at t.old memory.now v) objects.now load.now.width load.now.bytes load.now.align load.now.spans.now (value_meaning t.old v address))) }
 {
     match address {
         Some(address) => loaded_at(alloc, t, layout, objects, memory, load, address),

@@ -319,7 +319,7 @@ pub(crate) fn two<R: InitialReads>(
     layout: &Layout,
     memory: &SymMemory<R>,
     file: &SymFile,
-    inputs: Inputs,
+    inputs: &Inputs,
 ) -> Result<Operands, AllocError>
     requires layout { IsMemoryOf layout.now.objects memory.now }
     requires whole { AreWhole layout.now.objects }
@@ -328,8 +328,8 @@ pub(crate) fn two<R: InitialReads>(
     ensures frame { Extends t.old t.new }
     ensures first { IfOk result (λ r. IsOperand t.new r.a) }
     ensures second { IfOk result (λ r. IsOperand t.new r.b) }
-    ensures is_first { IfOk result (λ r. (v : Reading) → value_meaning t.new v r.a ≡ definition.value_of (memory_at t.old memory.now v) (registers_of t.old v file.now) inputs.a.now) }
-    ensures is_second { IfOk result (λ r. (v : Reading) → value_meaning t.new v r.b ≡ definition.value_of (memory_at t.old memory.now v) (registers_of t.old v file.now) inputs.b.now) }
+    ensures is_first { IfOk result (λ r. (v : Reading) → value_meaning t.new v r.a ≡ definition.value_of (memory_at t.old memory.now v) (registers_of t.old v file.now) inputs.now.a.now) }
+    ensures is_second { IfOk result (λ r. (v : Reading) → value_meaning t.new v r.b ≡ definition.value_of (memory_at t.old memory.now v) (registers_of t.old v file.now) inputs.now.b.now) }
 {
     let first = operand(t, layout, memory, file, inputs.a)?;
     let second = operand(t, layout, memory, file, inputs.b)?;
