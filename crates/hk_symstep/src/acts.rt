@@ -18,8 +18,9 @@ ghost use Rattle.hk_symstep.specs.Steps.{AnswersComputed, AnswersPasses, IsCompu
 
 use crate::arguments::poisoned;
 use crate::file::SymFile;
-use crate::operands::{operand, two};
-use crate::state::SymComputed;
+use crate::loads::Load;
+use crate::operands::{Inputs, operand, two};
+use crate::state::{SlotAccess, SymComputed};
 use crate::{loads, rows};
 use hk_seq::Seq;
 use hk_symmem::{InitialReads, SymMemory};
@@ -30,158 +31,162 @@ use ir_layout::Layout;
 use ir_value::{OverflowKind, PairKind};
 use std::alloc::{AllocError, Global};
 
+// What an instruction reads: the layout and the objects of the kernel, the memory, and the registers of the frame.
+#[derive(Drop)]
+struct State<'a, R: InitialReads> {
+    layout: &'a Layout,
+    objects: &'a Seq<Object>,
+    memory: &'a SymMemory<R>,
+    file: &'a SymFile,
+}
+
+// The width of a number in bits, and that of what it is converted to.
+#[derive(Clone, Copy)]
+struct Widths {
+    from: u32,
+    to: u32,
+}
+
 fn binary<R: InitialReads>(
     t: &mut Terms,
-    layout: &Layout,
-    memory: &SymMemory<R>,
-    file: &SymFile,
+    state: &State<R>,
     flags: Flags,
     kind: BinaryKind,
     width: u32,
-    a: &Input,
-    b: &Input,
+    inputs: &Inputs,
 ) -> Result<SymComputed, AllocError>
-    requires layout { IsMemoryOf layout.now.objects memory.now }
-    requires whole { AreWhole layout.now.objects }
-    requires over { IsOver t.old memory.now }
-    requires file { IsFile t.old file.now }
+    requires layout { IsMemoryOf state.now.layout.now.objects state.now.memory.now }
+    requires whole { AreWhole state.now.layout.now.objects }
+    requires over { IsOver t.old state.now.memory.now }
+    requires file { IsFile t.old state.now.file.now }
     ensures frame { Extends t.old t.new }
     ensures within { IfOk result (λ r. IsComputed t.new r) }
-    ensures answers { IfOk result (λ r. (v : Reading) → AnswersComputed t.new v r (definition.on_two (binary flags kind width) (definition.value_of (memory_at t.old memory.now v) (registers_of t.old v file.now) a.now) (definition.value_of (memory_at t.old memory.now v) (registers_of t.old v file.now) b.now))) }
+    ensures answers { IfOk result (λ r. (v : Reading) → AnswersComputed t.new v r (definition.on_two (binary flags kind width) (definition.value_of (memory_at t.old state.now.memory.now v) (registers_of t.old v state.now.file.now) inputs.now.a.now) (definition.value_of (memory_at t.old state.now.memory.now v) (registers_of t.old v state.now.file.now) inputs.now.b.now))) }
 {
-    let operands = two(t, layout, memory, file, a, b)?;
+    let operands = two(t, state.layout, state.memory, state.file, inputs)?;
     let made = rows::binary(t, flags, kind, width, operands.a, operands.b)?;
     Ok(made)
 }
 
 fn compare<R: InitialReads>(
     t: &mut Terms,
-    layout: &Layout,
-    memory: &SymMemory<R>,
-    file: &SymFile,
+    state: &State<R>,
     predicate: Predicate,
     width: u32,
-    a: &Input,
-    b: &Input,
+    inputs: &Inputs,
 ) -> Result<SymComputed, AllocError>
-    requires layout { IsMemoryOf layout.now.objects memory.now }
-    requires whole { AreWhole layout.now.objects }
-    requires over { IsOver t.old memory.now }
-    requires file { IsFile t.old file.now }
+    requires layout { IsMemoryOf state.now.layout.now.objects state.now.memory.now }
+    requires whole { AreWhole state.now.layout.now.objects }
+    requires over { IsOver t.old state.now.memory.now }
+    requires file { IsFile t.old state.now.file.now }
     ensures frame { Extends t.old t.new }
     ensures within { IfOk result (λ r. IsComputed t.new r) }
-    ensures answers { IfOk result (λ r. (v : Reading) → AnswersComputed t.new v r (definition.on_two (compare_numbers predicate width) (definition.value_of (memory_at t.old memory.now v) (registers_of t.old v file.now) a.now) (definition.value_of (memory_at t.old memory.now v) (registers_of t.old v file.now) b.now))) }
+    ensures answers { IfOk result (λ r. (v : Reading) → AnswersComputed t.new v r (definition.on_two (compare_numbers predicate width) (definition.value_of (memory_at t.old state.now.memory.now v) (registers_of t.old v state.now.file.now) inputs.now.a.now) (definition.value_of (memory_at t.old state.now.memory.now v) (registers_of t.old v state.now.file.now) inputs.now.b.now))) }
 {
-    let operands = two(t, layout, memory, file, a, b)?;
+    let operands = two(t, state.layout, state.memory, state.file, inputs)?;
     let made = rows::compare(t, predicate, width, operands.a, operands.b)?;
     Ok(made)
 }
 
 fn compare_pointers<R: InitialReads>(
     t: &mut Terms,
-    layout: &Layout,
-    memory: &SymMemory<R>,
-    file: &SymFile,
+    state: &State<R>,
     predicate: Predicate,
-    a: &Input,
-    b: &Input,
+    inputs: &Inputs,
 ) -> Result<SymComputed, AllocError>
-    requires layout { IsMemoryOf layout.now.objects memory.now }
-    requires whole { AreWhole layout.now.objects }
-    requires over { IsOver t.old memory.now }
-    requires file { IsFile t.old file.now }
+    requires layout { IsMemoryOf state.now.layout.now.objects state.now.memory.now }
+    requires whole { AreWhole state.now.layout.now.objects }
+    requires over { IsOver t.old state.now.memory.now }
+    requires file { IsFile t.old state.now.file.now }
     ensures frame { Extends t.old t.new }
     ensures within { IfOk result (λ r. IsComputed t.new r) }
-    ensures answers { IfOk result (λ r. (v : Reading) → AnswersComputed t.new v r (definition.on_two (definition.compare_sized (memory_at t.old memory.now v) predicate) (definition.value_of (memory_at t.old memory.now v) (registers_of t.old v file.now) a.now) (definition.value_of (memory_at t.old memory.now v) (registers_of t.old v file.now) b.now))) }
+    ensures answers { IfOk result (λ r. (v : Reading) → AnswersComputed t.new v r (definition.on_two (definition.compare_sized (memory_at t.old state.now.memory.now v) predicate) (definition.value_of (memory_at t.old state.now.memory.now v) (registers_of t.old v state.now.file.now) inputs.now.a.now) (definition.value_of (memory_at t.old state.now.memory.now v) (registers_of t.old v state.now.file.now) inputs.now.b.now))) }
 {
-    let operands = two(t, layout, memory, file, a, b)?;
-    let made = rows::compare_pointers(t, layout, memory, predicate, operands.a, operands.b)?;
+    let operands = two(t, state.layout, state.memory, state.file, inputs)?;
+    let made = rows::compare_pointers(
+        t,
+        state.layout,
+        state.memory,
+        predicate,
+        operands.a,
+        operands.b,
+    )?;
     Ok(made)
 }
 
 fn select<R: InitialReads>(
     t: &mut Terms,
-    layout: &Layout,
-    memory: &SymMemory<R>,
-    file: &SymFile,
+    state: &State<R>,
     condition: &Input,
-    a: &Input,
-    b: &Input,
+    inputs: &Inputs,
 ) -> Result<SymComputed, AllocError>
-    requires layout { IsMemoryOf layout.now.objects memory.now }
-    requires whole { AreWhole layout.now.objects }
-    requires over { IsOver t.old memory.now }
-    requires file { IsFile t.old file.now }
+    requires layout { IsMemoryOf state.now.layout.now.objects state.now.memory.now }
+    requires whole { AreWhole state.now.layout.now.objects }
+    requires over { IsOver t.old state.now.memory.now }
+    requires file { IsFile t.old state.now.file.now }
     ensures frame { Extends t.old t.new }
     ensures within { IfOk result (λ r. IsComputed t.new r) }
-    ensures answers { IfOk result (λ r. (v : Reading) → AnswersComputed t.new v r (definition.on_three select (definition.value_of (memory_at t.old memory.now v) (registers_of t.old v file.now) condition.now) (definition.value_of (memory_at t.old memory.now v) (registers_of t.old v file.now) a.now) (definition.value_of (memory_at t.old memory.now v) (registers_of t.old v file.now) b.now))) }
+    ensures answers { IfOk result (λ r. (v : Reading) → AnswersComputed t.new v r (definition.on_three select (definition.value_of (memory_at t.old state.now.memory.now v) (registers_of t.old v state.now.file.now) condition.now) (definition.value_of (memory_at t.old state.now.memory.now v) (registers_of t.old v state.now.file.now) inputs.now.a.now) (definition.value_of (memory_at t.old state.now.memory.now v) (registers_of t.old v state.now.file.now) inputs.now.b.now))) }
 {
-    let value = operand(t, layout, memory, file, condition)?;
-    let operands = two(t, layout, memory, file, a, b)?;
+    let value = operand(t, state.layout, state.memory, state.file, condition)?;
+    let operands = two(t, state.layout, state.memory, state.file, inputs)?;
     let made = rows::select(t, value, operands.a, operands.b)?;
     Ok(made)
 }
 
 fn convert<R: InitialReads>(
     t: &mut Terms,
-    layout: &Layout,
-    memory: &SymMemory<R>,
-    file: &SymFile,
+    state: &State<R>,
     nneg: bool,
     kind: ConvertKind,
-    from: u32,
-    to: u32,
+    widths: Widths,
     a: &Input,
 ) -> Result<SymComputed, AllocError>
-    requires layout { IsMemoryOf layout.now.objects memory.now }
-    requires whole { AreWhole layout.now.objects }
-    requires over { IsOver t.old memory.now }
-    requires file { IsFile t.old file.now }
+    requires layout { IsMemoryOf state.now.layout.now.objects state.now.memory.now }
+    requires whole { AreWhole state.now.layout.now.objects }
+    requires over { IsOver t.old state.now.memory.now }
+    requires file { IsFile t.old state.now.file.now }
     ensures frame { Extends t.old t.new }
     ensures within { IfOk result (λ r. IsComputed t.new r) }
-    ensures answers { IfOk result (λ r. (v : Reading) → AnswersComputed t.new v r (definition.on_one (convert nneg kind from to) (definition.value_of (memory_at t.old memory.now v) (registers_of t.old v file.now) a.now))) }
+    ensures answers { IfOk result (λ r. (v : Reading) → AnswersComputed t.new v r (definition.on_one (convert nneg kind widths.from widths.to) (definition.value_of (memory_at t.old state.now.memory.now v) (registers_of t.old v state.now.file.now) a.now))) }
 {
-    let value = operand(t, layout, memory, file, a)?;
-    let made = rows::convert(t, nneg, kind, from, to, value)?;
+    let value = operand(t, state.layout, state.memory, state.file, a)?;
+    let made = rows::convert(t, nneg, kind, widths.from, widths.to, value)?;
     Ok(made)
 }
 
 fn freeze<R: InitialReads>(
     t: &mut Terms,
-    layout: &Layout,
-    memory: &SymMemory<R>,
-    file: &SymFile,
+    state: &State<R>,
     a: &Input,
 ) -> Result<SymComputed, AllocError>
-    requires layout { IsMemoryOf layout.now.objects memory.now }
-    requires whole { AreWhole layout.now.objects }
-    requires over { IsOver t.old memory.now }
-    requires file { IsFile t.old file.now }
+    requires layout { IsMemoryOf state.now.layout.now.objects state.now.memory.now }
+    requires whole { AreWhole state.now.layout.now.objects }
+    requires over { IsOver t.old state.now.memory.now }
+    requires file { IsFile t.old state.now.file.now }
     ensures frame { Extends t.old t.new }
     ensures within { IfOk result (λ r. IsComputed t.new r) }
-    ensures answers { IfOk result (λ r. (v : Reading) → AnswersComputed t.new v r (definition.on_one numbers.freeze (definition.value_of (memory_at t.old memory.now v) (registers_of t.old v file.now) a.now))) }
+    ensures answers { IfOk result (λ r. (v : Reading) → AnswersComputed t.new v r (definition.on_one numbers.freeze (definition.value_of (memory_at t.old state.now.memory.now v) (registers_of t.old v state.now.file.now) a.now))) }
 {
-    let value = operand(t, layout, memory, file, a)?;
+    let value = operand(t, state.layout, state.memory, state.file, a)?;
     let made = rows::freeze(t, value)?;
     Ok(made)
 }
 
 fn address<R: InitialReads>(
     t: &mut Terms,
-    layout: &Layout,
-    memory: &SymMemory<R>,
-    file: &SymFile,
+    state: &State<R>,
     a: &Input,
 ) -> Result<SymComputed, AllocError>
-    requires layout { IsMemoryOf layout.now.objects memory.now }
-    requires whole { AreWhole layout.now.objects }
-    requires over { IsOver t.old memory.now }
-    requires file { IsFile t.old file.now }
+    requires layout { IsMemoryOf state.now.layout.now.objects state.now.memory.now }
+    requires whole { AreWhole state.now.layout.now.objects }
+    requires over { IsOver t.old state.now.memory.now }
+    requires file { IsFile t.old state.now.file.now }
     ensures frame { Extends t.old t.new }
     ensures within { IfOk result (λ r. IsComputed t.new r) }
-    ensures answers { IfOk result (λ r. (v : Reading) → AnswersComputed t.new v r (definition.given (definition.value_of (memory_at t.old memory.now v) (registers_of t.old v file.now) a.now))) }
+    ensures answers { IfOk result (λ r. (v : Reading) → AnswersComputed t.new v r (definition.given (definition.value_of (memory_at t.old state.now.memory.now v) (registers_of t.old v state.now.file.now) a.now))) }
 {
-    let value = operand(t, layout, memory, file, a)?;
+    let value = operand(t, state.layout, state.memory, state.file, a)?;
     let made = rows::address(t, value)?;
     Ok(made)
 }
@@ -189,113 +194,103 @@ fn address<R: InitialReads>(
 fn load<R: InitialReads>(
     alloc: Global,
     t: &mut Terms,
-    layout: &Layout,
-    objects: &Seq<Object>,
-    memory: &SymMemory<R>,
-    file: &SymFile,
-    width: u32,
-    bytes: u32,
-    align: u64,
-    spans: &Option<Seq<Span>>,
+    state: &State<R>,
+    load: &Load,
     address: &Input,
 ) -> Result<SymComputed, AllocError>
-    requires fits { FitsMemory layout.now.objects objects.now memory.now }
-    requires over { IsOver t.old memory.now }
-    requires file { IsFile t.old file.now }
+    requires fits { FitsMemory state.now.layout.now.objects state.now.objects.now state.now.memory.now }
+    requires over { IsOver t.old state.now.memory.now }
+    requires file { IsFile t.old state.now.file.now }
     ensures frame { Extends t.old t.new }
     ensures within { IfOk result (λ r. IsComputed t.new r) }
-    ensures answers { IfOk result (λ r. (v : Reading) → AnswersComputed t.new v r (definition.loaded (memory_at t.old memory.now v) objects.now width bytes align spans.now (definition.value_of (memory_at t.old memory.now v) (registers_of t.old v file.now) address.now))) }
+    ensures answers { IfOk result (λ r. (v : Reading) → AnswersComputed t.new v r (definition.loaded (memory_at t.old state.now.memory.now v) state.now.objects.now load.now.width load.now.bytes load.now.align load.now.spans.now (definition.value_of (memory_at t.old state.now.memory.now v) (registers_of t.old v state.now.file.now) address.now))) }
 {
-    let value = operand(t, layout, memory, file, address)?;
+    let value = operand(t, state.layout, state.memory, state.file, address)?;
     let made = loads::loaded(
-        alloc, t, layout, objects, memory, width, bytes, align, spans, value,
+        alloc,
+        t,
+        state.layout,
+        state.objects,
+        state.memory,
+        load,
+        value,
     )?;
     Ok(made)
 }
 
 fn overflow<R: InitialReads>(
     t: &mut Terms,
-    layout: &Layout,
-    memory: &SymMemory<R>,
-    file: &SymFile,
+    state: &State<R>,
     kind: OverflowKind,
     signed: bool,
     width: u32,
-    a: &Input,
-    b: &Input,
+    inputs: &Inputs,
 ) -> Result<SymComputed, AllocError>
-    requires layout { IsMemoryOf layout.now.objects memory.now }
-    requires whole { AreWhole layout.now.objects }
-    requires over { IsOver t.old memory.now }
-    requires file { IsFile t.old file.now }
+    requires layout { IsMemoryOf state.now.layout.now.objects state.now.memory.now }
+    requires whole { AreWhole state.now.layout.now.objects }
+    requires over { IsOver t.old state.now.memory.now }
+    requires file { IsFile t.old state.now.file.now }
     ensures frame { Extends t.old t.new }
     ensures within { IfOk result (λ r. IsComputed t.new r) }
-    ensures answers { IfOk result (λ r. (v : Reading) → AnswersComputed t.new v r (definition.on_pair (with_overflow kind signed width) (definition.value_of (memory_at t.old memory.now v) (registers_of t.old v file.now) a.now) (definition.value_of (memory_at t.old memory.now v) (registers_of t.old v file.now) b.now))) }
+    ensures answers { IfOk result (λ r. (v : Reading) → AnswersComputed t.new v r (definition.on_pair (with_overflow kind signed width) (definition.value_of (memory_at t.old state.now.memory.now v) (registers_of t.old v state.now.file.now) inputs.now.a.now) (definition.value_of (memory_at t.old state.now.memory.now v) (registers_of t.old v state.now.file.now) inputs.now.b.now))) }
 {
-    let operands = two(t, layout, memory, file, a, b)?;
+    let operands = two(t, state.layout, state.memory, state.file, inputs)?;
     let made = rows::overflow(t, kind, signed, width, operands.a, operands.b)?;
     Ok(made)
 }
 
 fn pair<R: InitialReads>(
     t: &mut Terms,
-    layout: &Layout,
-    memory: &SymMemory<R>,
-    file: &SymFile,
+    state: &State<R>,
     kind: PairKind,
     width: u32,
-    a: &Input,
-    b: &Input,
+    inputs: &Inputs,
 ) -> Result<SymComputed, AllocError>
-    requires layout { IsMemoryOf layout.now.objects memory.now }
-    requires whole { AreWhole layout.now.objects }
-    requires over { IsOver t.old memory.now }
-    requires file { IsFile t.old file.now }
+    requires layout { IsMemoryOf state.now.layout.now.objects state.now.memory.now }
+    requires whole { AreWhole state.now.layout.now.objects }
+    requires over { IsOver t.old state.now.memory.now }
+    requires file { IsFile t.old state.now.file.now }
     ensures frame { Extends t.old t.new }
     ensures within { IfOk result (λ r. IsComputed t.new r) }
-    ensures answers { IfOk result (λ r. (v : Reading) → AnswersComputed t.new v r (definition.on_two (pair kind width) (definition.value_of (memory_at t.old memory.now v) (registers_of t.old v file.now) a.now) (definition.value_of (memory_at t.old memory.now v) (registers_of t.old v file.now) b.now))) }
+    ensures answers { IfOk result (λ r. (v : Reading) → AnswersComputed t.new v r (definition.on_two (pair kind width) (definition.value_of (memory_at t.old state.now.memory.now v) (registers_of t.old v state.now.file.now) inputs.now.a.now) (definition.value_of (memory_at t.old state.now.memory.now v) (registers_of t.old v state.now.file.now) inputs.now.b.now))) }
 {
-    let operands = two(t, layout, memory, file, a, b)?;
+    let operands = two(t, state.layout, state.memory, state.file, inputs)?;
     let made = rows::pair(t, kind, width, operands.a, operands.b)?;
     Ok(made)
 }
 
 fn assume<R: InitialReads>(
     t: &mut Terms,
-    layout: &Layout,
-    memory: &SymMemory<R>,
-    file: &SymFile,
+    state: &State<R>,
     condition: &Input,
 ) -> Result<SymComputed, AllocError>
-    requires layout { IsMemoryOf layout.now.objects memory.now }
-    requires whole { AreWhole layout.now.objects }
-    requires over { IsOver t.old memory.now }
-    requires file { IsFile t.old file.now }
+    requires layout { IsMemoryOf state.now.layout.now.objects state.now.memory.now }
+    requires whole { AreWhole state.now.layout.now.objects }
+    requires over { IsOver t.old state.now.memory.now }
+    requires file { IsFile t.old state.now.file.now }
     ensures frame { Extends t.old t.new }
     ensures within { IfOk result (λ r. IsComputed t.new r) }
-    ensures answers { IfOk result (λ r. (v : Reading) → AnswersComputed t.new v r (definition.assumed (definition.value_of (memory_at t.old memory.now v) (registers_of t.old v file.now) condition.now))) }
+    ensures answers { IfOk result (λ r. (v : Reading) → AnswersComputed t.new v r (definition.assumed (definition.value_of (memory_at t.old state.now.memory.now v) (registers_of t.old v state.now.file.now) condition.now))) }
 {
-    let value = operand(t, layout, memory, file, condition)?;
+    let value = operand(t, state.layout, state.memory, state.file, condition)?;
     let made = rows::assume(t, value)?;
     Ok(made)
 }
 
 fn hook<R: InitialReads>(
     t: &mut Terms,
-    layout: &Layout,
-    memory: &SymMemory<R>,
-    file: &SymFile,
+    state: &State<R>,
     arguments: &[Input],
 ) -> Result<SymComputed, AllocError>
-    requires layout { IsMemoryOf layout.now.objects memory.now }
-    requires whole { AreWhole layout.now.objects }
-    requires over { IsOver t.old memory.now }
-    requires file { IsFile t.old file.now }
+    requires layout { IsMemoryOf state.now.layout.now.objects state.now.memory.now }
+    requires whole { AreWhole state.now.layout.now.objects }
+    requires over { IsOver t.old state.now.memory.now }
+    requires file { IsFile t.old state.now.file.now }
     ensures frame { Extends t.old t.new }
     ensures within { IfOk result (λ r. IsComputed t.new r) }
-    ensures answers { IfOk result (λ r. (v : Reading) → AnswersComputed t.new v r (definition.arguments_pass (memory_at t.old memory.now v) (registers_of t.old v file.now) arguments.now)) }
+    ensures answers { IfOk result (λ r. (v : Reading) → AnswersComputed t.new v r (definition.arguments_pass (memory_at t.old state.now.memory.now v) (registers_of t.old v state.now.file.now) arguments.now)) }
 {
-    let stuck = poisoned(t, layout, memory, file, arguments)?;
+    let stuck = poisoned(t, state.layout, state.memory, state.file, arguments)?;
     Ok(SymComputed::Passes { stuck })
 }
 
@@ -334,18 +329,15 @@ fn extract(t: &mut Terms, file: &SymFile, place: u32, part: u32) -> Result<SymCo
 fn given<R: InitialReads>(
     alloc: Global,
     t: &mut Terms,
-    layout: &Layout,
-    objects: &Seq<Object>,
-    memory: &SymMemory<R>,
-    file: &SymFile,
+    state: &State<R>,
     act: &Act,
 ) -> Result<SymComputed, AllocError>
-    requires fits { FitsMemory layout.now.objects objects.now memory.now }
-    requires over { IsOver t.old memory.now }
-    requires file { IsFile t.old file.now }
+    requires fits { FitsMemory state.now.layout.now.objects state.now.objects.now state.now.memory.now }
+    requires over { IsOver t.old state.now.memory.now }
+    requires file { IsFile t.old state.now.file.now }
     ensures frame { Extends t.old t.new }
     ensures within { IfOk result (λ r. IsComputed t.new r) }
-    ensures answers { IfOk result (λ r. (v : Reading) → AnswersComputed t.new v r (definition.computed (memory_at t.old memory.now v) objects.now (registers_of t.old v file.now) act.now)) }
+    ensures answers { IfOk result (λ r. (v : Reading) → AnswersComputed t.new v r (definition.computed (memory_at t.old state.now.memory.now v) state.now.objects.now (registers_of t.old v state.now.file.now) act.now)) }
 {
     match act {
         Act::Binary {
@@ -354,26 +346,32 @@ fn given<R: InitialReads>(
             width,
             a,
             b,
-        } => binary(t, layout, memory, file, *flags, *kind, *width, a, b),
+        } => binary(t, state, *flags, *kind, *width, &Inputs { a, b }),
         Act::Compare {
             predicate,
             width,
             a,
             b,
-        } => compare(t, layout, memory, file, *predicate, *width, a, b),
+        } => compare(t, state, *predicate, *width, &Inputs { a, b }),
         Act::ComparePointers { predicate, a, b } => {
-            compare_pointers(t, layout, memory, file, *predicate, a, b)
+            compare_pointers(t, state, *predicate, &Inputs { a, b })
         }
-        Act::Select { condition, a, b } => select(t, layout, memory, file, condition, a, b),
+        Act::Select { condition, a, b } => select(t, state, condition, &Inputs { a, b }),
         Act::Convert {
             kind,
             nneg,
             from,
             to,
             a,
-        } => convert(t, layout, memory, file, *nneg, *kind, *from, *to, a),
-        Act::Freeze { a } => freeze(t, layout, memory, file, a),
-        Act::Address { a } => address(t, layout, memory, file, a),
+        } => {
+            let widths = Widths {
+                from: *from,
+                to: *to,
+            };
+            convert(t, state, *nneg, *kind, widths, a)
+        }
+        Act::Freeze { a } => freeze(t, state, a),
+        Act::Address { a } => address(t, state, a),
         Act::Slot { align } => rows::slot(t, *align),
         Act::Load {
             width,
@@ -381,26 +379,32 @@ fn given<R: InitialReads>(
             align,
             spans,
             address,
-        } => load(
-            alloc, t, layout, objects, memory, file, *width, *bytes, *align, spans, address,
-        ),
+        } => {
+            let typed = Load {
+                width: *width,
+                bytes: *bytes,
+                align: *align,
+                spans,
+            };
+            load(alloc, t, state, &typed, address)
+        }
         Act::LoadSlot {
             width,
             align,
             spans,
             slot,
-        } => load_slot(t, file, *width, *align, spans, *slot),
+        } => load_slot(t, state.file, *width, *align, spans, *slot),
         Act::WithOverflow {
             kind,
             signed,
             width,
             a,
             b,
-        } => overflow(t, layout, memory, file, *kind, *signed, *width, a, b),
-        Act::Pair { kind, width, a, b } => pair(t, layout, memory, file, *kind, *width, a, b),
-        Act::Assume { condition } => assume(t, layout, memory, file, condition),
-        Act::Extract { pair, part } => extract(t, file, *pair, *part),
-        Act::Hook { arguments } => hook(t, layout, memory, file, arguments.as_slice()),
+        } => overflow(t, state, *kind, *signed, *width, &Inputs { a, b }),
+        Act::Pair { kind, width, a, b } => pair(t, state, *kind, *width, &Inputs { a, b }),
+        Act::Assume { condition } => assume(t, state, condition),
+        Act::Extract { pair, part } => extract(t, state.file, *pair, *part),
+        Act::Hook { arguments } => hook(t, state, arguments.as_slice()),
         _ => Ok(SymComputed::Lost),
     }
 }
@@ -423,7 +427,13 @@ pub fn computed<R: InitialReads>(
     ensures within { IfOk result (λ r. IsComputed t.new r) }
     ensures answers { IfOk result (λ r. (v : Reading) (rs : Registers) → Covers t.old v file.now rs → AnswersComputed t.new v r (definition.computed (memory_at t.old memory.now v) objects.now rs act.now)) }
 {
-    let made = given(alloc, t, layout, objects, memory, file, act)?;
+    let state = State {
+        layout,
+        objects,
+        memory,
+        file,
+    };
+    let made = given(alloc, t, &state, act)?;
     Ok(made)
 }
 
@@ -432,9 +442,8 @@ fn slot_given<R: InitialReads>(
     layout: &Layout,
     memory: &SymMemory<R>,
     file: &SymFile,
-    align: u64,
     value: &Input,
-    slot: u32,
+    to: SlotAccess,
 ) -> Result<SymComputed, AllocError>
     requires layout { IsMemoryOf layout.now.objects memory.now }
     requires whole { AreWhole layout.now.objects }
@@ -442,11 +451,11 @@ fn slot_given<R: InitialReads>(
     requires file { IsFile t.old file.now }
     ensures frame { Extends t.old t.new }
     ensures within { IfOk result (λ r. IsComputed t.new r) }
-    ensures answers { IfOk result (λ r. (v : Reading) → AnswersComputed t.new v r (steps.slot_stored align (definition.value_of (memory_at t.old memory.now v) (registers_of t.old v file.now) value.now) (definition.held_at (registers_of t.old v file.now) slot))) }
+    ensures answers { IfOk result (λ r. (v : Reading) → AnswersComputed t.new v r (steps.slot_stored to.align (definition.value_of (memory_at t.old memory.now v) (registers_of t.old v file.now) value.now) (definition.held_at (registers_of t.old v file.now) to.slot))) }
 {
     let stored = operand(t, layout, memory, file, value)?;
-    let held = file.held(slot);
-    let made = loads::slot_stored(t, align, stored, held)?;
+    let held = file.held(to.slot);
+    let made = loads::slot_stored(t, to.align, stored, held)?;
     Ok(made)
 }
 
@@ -456,9 +465,8 @@ pub fn stored_slot<R: InitialReads>(
     layout: &Layout,
     memory: &SymMemory<R>,
     file: &SymFile,
-    align: u64,
     value: &Input,
-    slot: u32,
+    to: SlotAccess,
 ) -> Result<SymComputed, AllocError>
     requires layout { IsMemoryOf layout.now.objects memory.now }
     requires whole { AreWhole layout.now.objects }
@@ -466,8 +474,8 @@ pub fn stored_slot<R: InitialReads>(
     requires file { IsFile t.old file.now }
     ensures frame { Extends t.old t.new }
     ensures within { IfOk result (λ r. IsComputed t.new r) }
-    ensures answers { IfOk result (λ r. (v : Reading) (rs : Registers) → Covers t.old v file.now rs → AnswersComputed t.new v r (steps.slot_stored align (definition.value_of (memory_at t.old memory.now v) rs value.now) (definition.held_at rs slot))) }
+    ensures answers { IfOk result (λ r. (v : Reading) (rs : Registers) → Covers t.old v file.now rs → AnswersComputed t.new v r (steps.slot_stored to.align (definition.value_of (memory_at t.old memory.now v) rs value.now) (definition.held_at rs to.slot))) }
 {
-    let made = slot_given(t, layout, memory, file, align, value, slot)?;
+    let made = slot_given(t, layout, memory, file, value, to)?;
     Ok(made)
 }

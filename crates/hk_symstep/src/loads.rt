@@ -18,13 +18,23 @@ ghost use Rattle.hk_symstep.specs.Steps.{AnswersComputed, IsComputed, by_spans};
 use crate::spans::leaves;
 use crate::state::{SymComputed, SymHeld, SymSlot};
 use hk_seq::Seq;
-use hk_symaccess::load;
+use hk_symaccess::Access;
 use hk_symmem::{InitialReads, SymMemory};
 use hk_symvalue::{SymValue, logic};
 use hk_term::{TermId, Terms};
 use ir_code::{Object, Span};
 use ir_layout::Layout;
 use std::alloc::{AllocError, Global};
+
+/// A load of an integer: its width in bits, how many bytes it takes, at what alignment in bytes, and the ranges that it is said to lie
+/// in.
+#[derive(Clone, Copy)]
+pub(crate) struct Load<'a> {
+    pub(crate) width: u32,
+    pub(crate) bytes: u32,
+    pub(crate) align: u64,
+    pub(crate) spans: &'a Option<Seq<Span>>,
+}
 
 // A number that was loaded: the run is stuck out of the stated range, too.
 #[tactic(auto, using(crate::proofs::LoadLaws::made_by))]
@@ -55,10 +65,7 @@ fn loaded_at<R: InitialReads>(
     layout: &Layout,
     objects: &Seq<Object>,
     memory: &SymMemory<R>,
-    width: u32,
-    bytes: u32,
-    align: u64,
-    spans: &Option<Seq<Span>>,
+    load: &Load,
     address: SymValue,
 ) -> Result<SymComputed, AllocError>
     requires fits { FitsMemory layout.now.objects objects.now memory.now }
@@ -66,10 +73,15 @@ fn loaded_at<R: InitialReads>(
     requires address { IsSym t.old address }
     ensures frame { Extends t.old t.new }
     ensures within { IfOk result (λ r. IsComputed t.new r) }
-    ensures answers { IfOk result (λ r. (v : Reading) → AnswersComputed t.new v r (definition.loaded (memory_at t.old memory.now v) objects.now width bytes align spans.now (Some (meaning t.old address v)))) }
+    ensures answers { IfOk result (λ r. (v : Reading) → AnswersComputed t.new v r (definition.loaded (memory_at t.old memory.now v) objects.now load.now.width load.now.bytes load.now.align load.now.spans.now (Some (meaning t.old address v)))) }
 {
-    let made = load(alloc, t, layout, objects, memory, bytes, align, address)?;
-    let computed = against_spans(t, width, spans, made.stuck, made.value)?;
+    let access = Access {
+        bytes: load.bytes,
+        align: load.align,
+        address,
+    };
+    let made = hk_symaccess::load(alloc, t, layout, objects, memory, access)?;
+    let computed = against_spans(t, load.width, load.spans, made.stuck, made.value)?;
     Ok(computed)
 }
 
@@ -79,10 +91,7 @@ pub(crate) fn loaded<R: InitialReads>(
     layout: &Layout,
     objects: &Seq<Object>,
     memory: &SymMemory<R>,
-    width: u32,
-    bytes: u32,
-    align: u64,
-    spans: &Option<Seq<Span>>,
+    load: &Load,
     address: Option<SymValue>,
 ) -> Result<SymComputed, AllocError>
     requires fits { FitsMemory layout.now.objects objects.now memory.now }
@@ -90,12 +99,10 @@ pub(crate) fn loaded<R: InitialReads>(
     requires address { IsOperand t.old address }
     ensures frame { Extends t.old t.new }
     ensures within { IfOk result (λ r. IsComputed t.new r) }
-    ensures answers { IfOk result (λ r. (v : Reading) → AnswersComputed t.new v r (definition.loaded (memory_at t.old memory.now v) objects.now width bytes align spans.now (value_meaning t.old v address))) }
+    ensures answers { IfOk result (λ r. (v : Reading) → AnswersComputed t.new v r (definition.loaded (memory_at t.old memory.now v) objects.now load.now.width load.now.bytes load.now.align load.now.spans.now (value_meaning t.old v address))) }
 {
     match address {
-        Some(address) => loaded_at(
-            alloc, t, layout, objects, memory, width, bytes, align, spans, address,
-        ),
+        Some(address) => loaded_at(alloc, t, layout, objects, memory, load, address),
         None => Ok(SymComputed::Lost),
     }
 }

@@ -108,14 +108,20 @@ fn begun<R: InitialReads>(
     Ok(made)
 }
 
+// A step of an address: by an index at so many bits, times so many bytes, within its object where that is said.
+#[derive(Clone, Copy)]
+struct Stride {
+    inbounds: bool,
+    width: u32,
+    each: u64,
+}
+
 #[tactic(auto, using(crate::proofs::Sizes::stepped))]
 fn stepped<R: InitialReads>(
     t: &mut Terms,
     layout: &Layout,
     memory: &SymMemory<R>,
-    inbounds: bool,
-    width: u32,
-    each: u64,
+    stride: Stride,
     index: SymValue,
     from: SymValue,
 ) -> Result<SymValue, AllocError>
@@ -125,10 +131,18 @@ fn stepped<R: InitialReads>(
     requires from { IsSym t.old from }
     ensures frame { Extends t.old t.new }
     ensures within { IfOk result (λ r. IsSym t.new r) }
-    ensures value { IfOk result (λ r. (v : Reading) → meaning t.new r v ≡ step_of inbounds (definition.size_at (memory_at t.old memory.now v) (meaning t.old from v)) width each (meaning t.old index v) (meaning t.old from v)) }
+    ensures value { IfOk result (λ r. (v : Reading) → meaning t.new r v ≡ step_of stride.inbounds (definition.size_at (memory_at t.old memory.now v) (meaning t.old from v)) stride.width stride.each (meaning t.old index v) (meaning t.old from v)) }
 {
-    let size = size_for(t, layout, memory, inbounds, from.base)?;
-    let made = step(t, inbounds, size, width, each, index, from)?;
+    let size = size_for(t, layout, memory, stride.inbounds, from.base)?;
+    let made = step(
+        t,
+        stride.inbounds,
+        size,
+        stride.width,
+        stride.each,
+        index,
+        from,
+    )?;
     Ok(made)
 }
 
@@ -154,9 +168,7 @@ fn steps<R: InitialReads>(
     t: &mut Terms,
     layout: &Layout,
     memory: &SymMemory<R>,
-    inbounds: bool,
-    width: u32,
-    each: u64,
+    stride: Stride,
     index: Option<SymValue>,
     from: SymValue,
 ) -> Result<Option<SymValue>, AllocError>
@@ -166,40 +178,15 @@ fn steps<R: InitialReads>(
     requires from { IsSym t.old from }
     ensures frame { Extends t.old t.new }
     ensures within { IfOk result (λ r. IsOperand t.new r) }
-    ensures value { IfOk result (λ r. (v : Reading) → value_meaning t.new v r ≡ definition.stepped (memory_at t.old memory.now v) inbounds width each (value_meaning t.old v index) (meaning t.old from v)) }
+    ensures value { IfOk result (λ r. (v : Reading) → value_meaning t.new v r ≡ definition.stepped (memory_at t.old memory.now v) stride.inbounds stride.width stride.each (value_meaning t.old v index) (meaning t.old from v)) }
 {
     match index {
         Some(index) => {
-            let made = stepped(t, layout, memory, inbounds, width, each, index, from)?;
+            let made = stepped(t, layout, memory, stride, index, from)?;
             Ok(Some(made))
         }
         None => Ok(None),
     }
-}
-
-fn steps_by<R: InitialReads>(
-    t: &mut Terms,
-    layout: &Layout,
-    memory: &SymMemory<R>,
-    file: &SymFile,
-    inbounds: bool,
-    width: u32,
-    each: u64,
-    index: Base,
-    from: SymValue,
-) -> Result<Option<SymValue>, AllocError>
-    requires layout { IsMemoryOf layout.now.objects memory.now }
-    requires whole { AreWhole layout.now.objects }
-    requires over { IsOver t.old memory.now }
-    requires file { IsFile t.old file.now }
-    requires from { IsSym t.old from }
-    ensures frame { Extends t.old t.new }
-    ensures within { IfOk result (λ r. IsOperand t.new r) }
-    ensures value { IfOk result (λ r. (v : Reading) → value_meaning t.new v r ≡ definition.stepped (memory_at t.old memory.now v) inbounds width each (definition.base_value (registers_of t.old v file.now) index) (meaning t.old from v)) }
-{
-    let index = base_value(t, file, index)?;
-    let made = steps(t, layout, memory, inbounds, width, each, index, from)?;
-    Ok(made)
 }
 
 fn moved<R: InitialReads>(
@@ -226,7 +213,16 @@ fn moved<R: InitialReads>(
             width,
             each,
             index,
-        } => steps_by(t, layout, memory, file, inbounds, width, each, index, from),
+        } => {
+            let stride = Stride {
+                inbounds,
+                width,
+                each,
+            };
+            let index = base_value(t, file, index)?;
+            let made = steps(t, layout, memory, stride, index, from)?;
+            Ok(made)
+        }
     }
 }
 
@@ -303,7 +299,14 @@ pub fn operand<R: InitialReads>(
     Ok(made)
 }
 
-/// Operands operands.
+/// Two operands as they are read.
+#[derive(Clone, Copy)]
+pub(crate) struct Inputs<'a> {
+    pub(crate) a: &'a Input,
+    pub(crate) b: &'a Input,
+}
+
+/// What two operands stand for.
 #[derive(Clone, Copy, Debug)]
 pub(crate) struct Operands {
     pub(crate) a: Option<SymValue>,
@@ -316,8 +319,7 @@ pub(crate) fn two<R: InitialReads>(
     layout: &Layout,
     memory: &SymMemory<R>,
     file: &SymFile,
-    a: &Input,
-    b: &Input,
+    inputs: &Inputs,
 ) -> Result<Operands, AllocError>
     requires layout { IsMemoryOf layout.now.objects memory.now }
     requires whole { AreWhole layout.now.objects }
@@ -326,11 +328,11 @@ pub(crate) fn two<R: InitialReads>(
     ensures frame { Extends t.old t.new }
     ensures first { IfOk result (λ r. IsOperand t.new r.a) }
     ensures second { IfOk result (λ r. IsOperand t.new r.b) }
-    ensures is_first { IfOk result (λ r. (v : Reading) → value_meaning t.new v r.a ≡ definition.value_of (memory_at t.old memory.now v) (registers_of t.old v file.now) a.now) }
-    ensures is_second { IfOk result (λ r. (v : Reading) → value_meaning t.new v r.b ≡ definition.value_of (memory_at t.old memory.now v) (registers_of t.old v file.now) b.now) }
+    ensures is_first { IfOk result (λ r. (v : Reading) → value_meaning t.new v r.a ≡ definition.value_of (memory_at t.old memory.now v) (registers_of t.old v file.now) inputs.now.a.now) }
+    ensures is_second { IfOk result (λ r. (v : Reading) → value_meaning t.new v r.b ≡ definition.value_of (memory_at t.old memory.now v) (registers_of t.old v file.now) inputs.now.b.now) }
 {
-    let first = operand(t, layout, memory, file, a)?;
-    let second = operand(t, layout, memory, file, b)?;
+    let first = operand(t, layout, memory, file, inputs.a)?;
+    let second = operand(t, layout, memory, file, inputs.b)?;
     Ok(Operands {
         a: first,
         b: second,

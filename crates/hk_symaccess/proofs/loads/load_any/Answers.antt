@@ -14,9 +14,9 @@ loop-object-preserved g c =
       frame = search rules;
       over = over_kept _ _ m c.in_ok-made-2.ensures.frame c.loop-object.invariant.over;
       word = search rules;
-      is = λ v. one_more (memory_at first m v) (memory_at c.loop-object.t m v) (value first c.args.base v) (value c.loop-object.t c.args.base v) (value first c.args.offset v) (value c.loop-object.t c.args.offset v)
-          c.args.bytes c.loop-object.object (value c.loop-object.t c.loop-object.made v) _
-          (c.loop-object.invariant.frame.values c.args.base c.requires.base.0 v) (c.loop-object.invariant.frame.values c.args.offset c.requires.offset.0 v)
+      is = λ v. one_more (memory_at first m v) (memory_at c.loop-object.t m v) (value first c.args.at.now.base v) (value c.loop-object.t c.args.at.now.base v) (value first c.args.at.now.offset v) (value c.loop-object.t c.args.at.now.offset v)
+          c.args.at.now.bytes c.loop-object.object (value c.loop-object.t c.loop-object.made v) _
+          (c.loop-object.invariant.frame.values c.args.at.now.base c.requires.base.0 v) (c.loop-object.invariant.frame.values c.args.at.now.offset c.requires.offset.0 v)
           (memory_kept first c.loop-object.t m c.loop-object.invariant.frame c.requires.over v)
           (c.in_ok-made-2.ensures.here v) (c.in_ok-made-2.ensures.away v) (c.loop-object.invariant.is v);
     }

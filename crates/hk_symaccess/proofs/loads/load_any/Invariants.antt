@@ -11,7 +11,7 @@ abbrev pub invariant-loop-object : goal.invariant-loop-object
 invariant-loop-object g l = record {
   frame : Extends l.fn.t l.t;
   over : IsOver l.t l.memory;
-  word : IsWord l.t (8 * l.fn.bytes) l.made;
-  is : (v : Reading) → LiesAt (memory_at l.fn.t l.memory v) (value l.fn.t l.fn.base v) (value l.fn.t l.fn.offset v) l.fn.bytes → value l.fn.t l.fn.base v < l.object + 2
-      → value l.t l.made v ≡ number_at l.fn.bytes (value l.fn.t l.fn.offset v) (object_of (memory_at l.fn.t l.memory v) (value l.fn.t l.fn.base v - 2));
+  word : IsWord l.t (8 * l.at.bytes) l.made;
+  is : (v : Reading) → LiesAt (memory_at l.fn.t l.memory v) (value l.fn.t l.at.base v) (value l.fn.t l.at.offset v) l.at.bytes → value l.fn.t l.at.base v < l.object + 2
+      → value l.t l.made v ≡ number_at l.at.bytes (value l.fn.t l.at.offset v) (object_of (memory_at l.fn.t l.memory v) (value l.fn.t l.at.base v - 2));
 }

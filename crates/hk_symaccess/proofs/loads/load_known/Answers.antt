@@ -11,8 +11,8 @@ returns-in_ok-made-in-Some-clause-value g c = λ v lies.
     let first = c.args.t.now in
     let next = c.nothing.new.t in
     let m = c.args.memory.now in
-    found_at (memory_at first m v) (memory_at next m v) (value first c.args.base v) (value next c.args.base v) (value first c.args.offset v) (value next c.args.offset v) c.args.bytes c.in-Some.object _
-    (c.in_ok-rest.ensures.frame.values c.args.base c.requires.base.0 v) (c.in_ok-rest.ensures.frame.values c.args.offset c.requires.offset.0 v)
+    found_at (memory_at first m v) (memory_at next m v) (value first c.args.at.now.base v) (value next c.args.at.now.base v) (value first c.args.at.now.offset v) (value next c.args.at.now.offset v) c.args.at.now.bytes c.in-Some.object _
+    (c.in_ok-rest.ensures.frame.values c.args.at.now.base c.requires.base.0 v) (c.in_ok-rest.ensures.frame.values c.args.at.now.offset c.requires.offset.0 v)
     (memory_kept first next m c.in_ok-rest.ensures.frame c.requires.over v)
     (c.in_ok-made-in-Some.ensures.here v) (c.requires.known v ∙ c.in-Some.ensures.some.0) lies
 

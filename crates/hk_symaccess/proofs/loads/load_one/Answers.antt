@@ -11,7 +11,7 @@ returns-clause-here g c = λ v e l.
     let next = c.is_base.new.t in
     let m = c.args.memory.now in
     let same : memory_at next m v ≡ memory_at first m v = memory_kept first next m c.in_ok-test.ensures.frame c.requires.over v in
-    let place : value next c.args.offset v ≡ value first c.args.offset v = c.in_ok-test.ensures.frame.values c.args.offset c.requires.offset.0 v in
+    let place : value next c.args.at.now.offset v ≡ value first c.args.at.now.offset v = c.in_ok-test.ensures.frame.values c.args.at.now.offset c.requires.offset.0 v in
     let size : length (object_of (memory_at next m v) c.args.object) ≡ length (object_of (memory_at first m v) c.args.object) = ap (λ z. length (object_of z c.args.object)) same in
-    let inside : value next c.args.offset v + c.args.bytes ≤ length (object_of (memory_at next m v) c.args.object) = omega (arith, l, place, size) in
-    c.in_ok-made.ensures.here v (c.in_ok-test.ensures.value v ∙ e) inside ∙ (λ i. number_at c.args.bytes (place i) (object_of (same i) c.args.object))
+    let inside : value next c.args.at.now.offset v + c.args.at.now.bytes ≤ length (object_of (memory_at next m v) c.args.object) = omega (arith, l, place, size) in
+    c.in_ok-made.ensures.here v (c.in_ok-test.ensures.value v ∙ e) inside ∙ (λ i. number_at c.args.at.now.bytes (place i) (object_of (same i) c.args.object))

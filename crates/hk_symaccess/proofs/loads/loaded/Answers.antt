@@ -20,16 +20,16 @@ returns-clause-answers g c = λ v.
     let third = c.offset_of.new.t in
     let last = c.of_term.new.t in
     let m = c.args.memory.now in
-    let b = value first c.args.address.base v in
-    let x = value first c.args.address.bits v in
+    let b = value first c.args.access.now.address.base v in
+    let x = value first c.args.access.now.address.bits v in
     let there : Extends first third = search rules in
     let stuck : is_true last c.in_ok-stuck.stuck v ≡ is_true second c.in_ok-stuck.stuck v = search rules in
-    let base : value third c.args.address.base v ≡ b = there.values c.args.address.base c.requires.address.base.0 v in
+    let base : value third c.args.access.now.address.base v ≡ b = there.values c.args.access.now.address.base c.requires.address.base.0 v in
     let place : value third c.in_ok-offset.offset v ≡ x = search rules in
     let same : memory_at third m v ≡ memory_at first m v = memory_kept first third m there c.requires.over v in
-    let reaches : Reaches (is_true last c.in_ok-stuck.stuck v) (reached (memory_at first m v) c.args.objects.now c.args.bytes c.args.align (meaning first c.args.address v)) =
-    subst (λ s. Reaches s (reached (memory_at first m v) c.args.objects.now c.args.bytes c.args.align (meaning first c.args.address v))) (sym stuck) (c.in_ok-stuck.ensures.reaches v) in
-    load_answers (memory_at first m v) c.args.objects.now c.args.bytes c.args.align b x (is_true last c.in_ok-stuck.stuck v) (is_true first c.args.address.poison v) _
+    let reaches : Reaches (is_true last c.in_ok-stuck.stuck v) (reached (memory_at first m v) c.args.objects.now c.args.access.now.bytes c.args.access.now.align (meaning first c.args.access.now.address v)) =
+    subst (λ s. Reaches s (reached (memory_at first m v) c.args.objects.now c.args.access.now.bytes c.args.access.now.align (meaning first c.args.access.now.address v))) (sym stuck) (c.in_ok-stuck.ensures.reaches v) in
+    load_answers (memory_at first m v) c.args.objects.now c.args.access.now.bytes c.args.access.now.align b x (is_true last c.in_ok-stuck.stuck v) (is_true first c.args.access.now.address.poison v) _
     (meaning last c.in_ok-value.value v) c.requires.bytes reaches
-    (loaded_there (memory_at first m v) (memory_at third m v) b (value third c.args.address.base v) x (value third c.in_ok-offset.offset v) c.args.bytes _ same base place (c.in_ok-number.ensures.value v))
+    (loaded_there (memory_at first m v) (memory_at third m v) b (value third c.args.access.now.address.base v) x (value third c.in_ok-offset.offset v) c.args.access.now.bytes _ same base place (c.in_ok-number.ensures.value v))
     (c.in_ok-value.ensures.value v)

@@ -25,14 +25,14 @@ write_one-requires-clause-inside g c = λ v e f.
     let object = c.loop-object.object in
     let grown = c.loop-object.invariant.frame in
     let old = memory_at first c.args.memory.now v in
-    let b = value first c.args.base v in
-    let base : value turn c.args.base v ≡ b = grown.values c.args.base c.requires.base.0 v in
-    let place : value turn c.args.offset v ≡ value first c.args.offset v = grown.values c.args.offset c.requires.offset.0 v in
-    let go : is_true turn c.args.go v ≡ is_true first c.args.go v = ap (λ n. nat_eq n 1) (grown.values c.args.go c.requires.go.0 v) in
+    let b = value first c.args.write.now.at.base v in
+    let base : value turn c.args.write.now.at.base v ≡ b = grown.values c.args.write.now.at.base c.requires.base.0 v in
+    let place : value turn c.args.write.now.at.offset v ≡ value first c.args.write.now.at.offset v = grown.values c.args.write.now.at.offset c.requires.offset.0 v in
+    let go : is_true turn c.args.write.now.go v ≡ is_true first c.args.write.now.go v = ap (λ n. nat_eq n 1) (grown.values c.args.write.now.go c.requires.go.0 v) in
     let is : b ≡ object + 2 = sym base ∙ eqb-true _ _ f in
     let at : object ≡ b - 2 = omega (arith, is) in
-    let may : MayWrite old c.args.objects.now b (value first c.args.offset v) c.args.bytes = c.requires.lies v (sym go ∙ e) (lt-leb b 1 (omega (arith, is))) in
-    let same : memory_at turn c.loop-object.memory v ≡ old = c.loop-object.invariant.is v ∙ not_yet old b (value first c.args.offset v) c.args.bytes (value first c.args.number v) object (is_true first c.args.go v) is in
+    let may : MayWrite old c.args.objects.now b (value first c.args.write.now.at.offset v) c.args.write.now.at.bytes = c.requires.lies v (sym go ∙ e) (lt-leb b 1 (omega (arith, is))) in
+    let same : memory_at turn c.loop-object.memory v ≡ old = c.loop-object.invariant.is v ∙ not_yet old b (value first c.args.write.now.at.offset v) c.args.write.now.at.bytes (value first c.args.write.now.number v) object (is_true first c.args.write.now.go v) is in
     let size : length (object_of (memory_at turn c.loop-object.memory v) object) ≡ length (object_of old (b - 2)) = λ i. length (object_of (same i) (at i)) in
     omega (arith, may.lies.inside, place, size)
 
@@ -43,12 +43,12 @@ write_one-requires-clause-mutable g c = λ v e f.
     let object = c.loop-object.object in
     let grown = c.loop-object.invariant.frame in
     let old = memory_at first c.args.memory.now v in
-    let b = value first c.args.base v in
-    let base : value turn c.args.base v ≡ b = grown.values c.args.base c.requires.base.0 v in
-    let go : is_true turn c.args.go v ≡ is_true first c.args.go v = ap (λ n. nat_eq n 1) (grown.values c.args.go c.requires.go.0 v) in
+    let b = value first c.args.write.now.at.base v in
+    let base : value turn c.args.write.now.at.base v ≡ b = grown.values c.args.write.now.at.base c.requires.base.0 v in
+    let go : is_true turn c.args.write.now.go v ≡ is_true first c.args.write.now.go v = ap (λ n. nat_eq n 1) (grown.values c.args.write.now.go c.requires.go.0 v) in
     let is : b ≡ object + 2 = sym base ∙ eqb-true _ _ f in
     let at : object ≡ b - 2 = omega (arith, is) in
-    let may : MayWrite old c.args.objects.now b (value first c.args.offset v) c.args.bytes = c.requires.lies v (sym go ∙ e) (lt-leb b 1 (omega (arith, is))) in
+    let may : MayWrite old c.args.objects.now b (value first c.args.write.now.at.offset v) c.args.write.now.at.bytes = c.requires.lies v (sym go ∙ e) (lt-leb b 1 (omega (arith, is))) in
     (λ i. (object_at c.args.objects.now (at i)).constant) ∙ may.free
 
 pub loop-object-preserved : goal.loop-object-preserved
@@ -63,12 +63,12 @@ loop-object-preserved g c =
       origins = c.in_ok-write_one.ensures.origins ∙ c.loop-object.invariant.origins;
       over = c.in_ok-write_one.ensures.over;
       is = λ v.
-          let base : value turn c.args.base v ≡ value first c.args.base v = grown.values c.args.base c.requires.base.0 v in
-          let place : value turn c.args.offset v ≡ value first c.args.offset v = grown.values c.args.offset c.requires.offset.0 v in
-          let number : value turn c.args.number v ≡ value first c.args.number v = grown.values c.args.number c.requires.number.0 v in
-          let go : is_true turn c.args.go v ≡ is_true first c.args.go v = ap (λ n. nat_eq n 1) (grown.values c.args.go c.requires.go.0 v) in
+          let base : value turn c.args.write.now.at.base v ≡ value first c.args.write.now.at.base v = grown.values c.args.write.now.at.base c.requires.base.0 v in
+          let place : value turn c.args.write.now.at.offset v ≡ value first c.args.write.now.at.offset v = grown.values c.args.write.now.at.offset c.requires.offset.0 v in
+          let number : value turn c.args.write.now.number v ≡ value first c.args.write.now.number v = grown.values c.args.write.now.number c.requires.number.0 v in
+          let go : is_true turn c.args.write.now.go v ≡ is_true first c.args.write.now.go v = ap (λ n. nat_eq n 1) (grown.values c.args.write.now.go c.requires.go.0 v) in
           c.in_ok-write_one.ensures.value v
-          ∙ (λ i. if go i && nat_eq (base i) (object + 2) then write_to (memory_at turn now v) c.args.bytes object (place i) (number i) else memory_at turn now v)
-          ∙ one_written (memory_at first c.args.memory.now v) (value first c.args.base v) (value first c.args.offset v) c.args.bytes (value first c.args.number v) object (is_true first c.args.go v)
+          ∙ (λ i. if go i && nat_eq (base i) (object + 2) then write_to (memory_at turn now v) c.args.write.now.at.bytes object (place i) (number i) else memory_at turn now v)
+          ∙ one_written (memory_at first c.args.memory.now v) (value first c.args.write.now.at.base v) (value first c.args.write.now.at.offset v) c.args.write.now.at.bytes (value first c.args.write.now.number v) object (is_true first c.args.write.now.go v)
           (memory_at turn now v) (c.loop-object.invariant.is v);
     }

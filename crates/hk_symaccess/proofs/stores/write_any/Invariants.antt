@@ -12,5 +12,5 @@ invariant-loop-object g l = record {
   origins : l.memory.origins ≡ l.fn.memory.origins;
   over : IsOver l.t l.memory;
   is : (v : Reading) → memory_at l.t l.memory v
-      ≡ written_up_to l.object (is_true l.fn.t l.fn.go v) (memory_at l.fn.t l.fn.memory v) (value l.fn.t l.fn.base v) (value l.fn.t l.fn.offset v) l.fn.bytes (value l.fn.t l.fn.number v);
+      ≡ written_up_to l.object (is_true l.fn.t l.write.go v) (memory_at l.fn.t l.fn.memory v) (value l.fn.t l.write.at.base v) (value l.fn.t l.write.at.offset v) l.write.at.bytes (value l.fn.t l.write.number v);
 }

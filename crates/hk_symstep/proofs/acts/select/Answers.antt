@@ -11,8 +11,8 @@ use Rattle.hk_symstep.proofs.acts.select.Goals as goal
 pub returns-clause-answers : goal.returns-clause-answers
 returns-clause-answers g c = λ v.
     read_three c.select.new.t v c.in_ok-made.made numbers.select (value_meaning c.two.new.t v c.in_ok-value.value) (value_meaning c.two.new.t v c.in_ok-operands.operands.a) (value_meaning c.two.new.t v c.in_ok-operands.operands.b)
-    (definition.value_of (memory_at c.args.t.now c.args.memory.now v) (registers_of c.args.t.now v c.args.file.now) c.args.condition.now) (definition.value_of (memory_at c.args.t.now c.args.memory.now v) (registers_of c.args.t.now v c.args.file.now) c.args.a.now) (definition.value_of (memory_at c.args.t.now c.args.memory.now v) (registers_of c.args.t.now v c.args.file.now) c.args.b.now)
+    (definition.value_of (memory_at c.args.t.now c.args.state.now.memory.now v) (registers_of c.args.t.now v c.args.state.now.file.now) c.args.condition.now) (definition.value_of (memory_at c.args.t.now c.args.state.now.memory.now v) (registers_of c.args.t.now v c.args.state.now.file.now) c.args.inputs.now.a.now) (definition.value_of (memory_at c.args.t.now c.args.state.now.memory.now v) (registers_of c.args.t.now v c.args.state.now.file.now) c.args.inputs.now.b.now)
     (operand_same c.operand.new.t c.two.new.t c.two.ensures.frame v c.in_ok-value.value c.in_ok-value.ensures.within ∙ c.in_ok-value.ensures.value v)
-    (c.in_ok-operands.ensures.is_first v ∙ ap (λ m. definition.value_of m (registers_of c.operand.new.t v c.args.file.now) c.args.a.now) (memory_kept c.args.t.now c.operand.new.t c.operand.ensures.frame c.args.memory.now c.requires.over v) ∙ ap (λ rs. definition.value_of (memory_at c.args.t.now c.args.memory.now v) rs c.args.a.now) (registers_same c.args.t.now c.operand.new.t c.operand.ensures.frame v c.args.file.now c.requires.file))
-    (c.in_ok-operands.ensures.is_second v ∙ ap (λ m. definition.value_of m (registers_of c.operand.new.t v c.args.file.now) c.args.b.now) (memory_kept c.args.t.now c.operand.new.t c.operand.ensures.frame c.args.memory.now c.requires.over v) ∙ ap (λ rs. definition.value_of (memory_at c.args.t.now c.args.memory.now v) rs c.args.b.now) (registers_same c.args.t.now c.operand.new.t c.operand.ensures.frame v c.args.file.now c.requires.file))
+    (c.in_ok-operands.ensures.is_first v ∙ ap (λ m. definition.value_of m (registers_of c.operand.new.t v c.args.state.now.file.now) c.args.inputs.now.a.now) (memory_kept c.args.t.now c.operand.new.t c.operand.ensures.frame c.args.state.now.memory.now c.requires.over v) ∙ ap (λ rs. definition.value_of (memory_at c.args.t.now c.args.state.now.memory.now v) rs c.args.inputs.now.a.now) (registers_same c.args.t.now c.operand.new.t c.operand.ensures.frame v c.args.state.now.file.now c.requires.file))
+    (c.in_ok-operands.ensures.is_second v ∙ ap (λ m. definition.value_of m (registers_of c.operand.new.t v c.args.state.now.file.now) c.args.inputs.now.b.now) (memory_kept c.args.t.now c.operand.new.t c.operand.ensures.frame c.args.state.now.memory.now c.requires.over v) ∙ ap (λ rs. definition.value_of (memory_at c.args.t.now c.args.state.now.memory.now v) rs c.args.inputs.now.b.now) (registers_same c.args.t.now c.operand.new.t c.operand.ensures.frame v c.args.state.now.file.now c.requires.file))
     (c.in_ok-made.ensures.answers v)

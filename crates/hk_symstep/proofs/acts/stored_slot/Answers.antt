@@ -7,5 +7,5 @@ use Rattle.hk_symstep.proofs.acts.stored_slot.Goals as goal
 
 pub returns-clause-answers : goal.returns-clause-answers
 returns-clause-answers g c = λ v rs k.
-    answers c.slot_given.new.t v c.in_ok-made.made (steps.slot_stored c.args.align (definition.value_of (memory_at c.args.t.now c.args.memory.now v) rs c.args.value.now) (definition.held_at rs c.args.slot)) (steps.slot_stored c.args.align (definition.value_of (memory_at c.args.t.now c.args.memory.now v) (registers_of c.args.t.now v c.args.file.now) c.args.value.now) (definition.held_at (registers_of c.args.t.now v c.args.file.now) c.args.slot))
-    (slot_below (memory_at c.args.t.now c.args.memory.now v) rs (registers_of c.args.t.now v c.args.file.now) k c.args.align c.args.value.now c.args.slot) (c.in_ok-made.ensures.answers v)
+    answers c.slot_given.new.t v c.in_ok-made.made (steps.slot_stored c.args.to.align (definition.value_of (memory_at c.args.t.now c.args.memory.now v) rs c.args.value.now) (definition.held_at rs c.args.to.slot)) (steps.slot_stored c.args.to.align (definition.value_of (memory_at c.args.t.now c.args.memory.now v) (registers_of c.args.t.now v c.args.file.now) c.args.value.now) (definition.held_at (registers_of c.args.t.now v c.args.file.now) c.args.to.slot))
+    (slot_below (memory_at c.args.t.now c.args.memory.now v) rs (registers_of c.args.t.now v c.args.file.now) k c.args.to.align c.args.value.now c.args.to.slot) (c.in_ok-made.ensures.answers v)

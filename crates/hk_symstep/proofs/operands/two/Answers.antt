@@ -11,5 +11,5 @@ returns-clause-is_first g c = λ v. operand_same c.operand.new.t c.operand-2.new
 pub returns-clause-is_second : goal.returns-clause-is_second
 returns-clause-is_second g c = λ v.
     c.in_ok-second.ensures.value v
-    ∙ ap (λ m. definition.value_of m (registers_of c.operand.new.t v c.args.file.now) c.args.b.now) (memory_kept c.args.t.now c.operand.new.t c.operand.ensures.frame c.args.memory.now c.requires.over v)
-    ∙ ap (λ rs. definition.value_of (memory_at c.args.t.now c.args.memory.now v) rs c.args.b.now) (registers_same c.args.t.now c.operand.new.t c.operand.ensures.frame v c.args.file.now c.requires.file)
+    ∙ ap (λ m. definition.value_of m (registers_of c.operand.new.t v c.args.file.now) c.args.inputs.now.b.now) (memory_kept c.args.t.now c.operand.new.t c.operand.ensures.frame c.args.memory.now c.requires.over v)
+    ∙ ap (λ rs. definition.value_of (memory_at c.args.t.now c.args.memory.now v) rs c.args.inputs.now.b.now) (registers_same c.args.t.now c.operand.new.t c.operand.ensures.frame v c.args.file.now c.requires.file)
