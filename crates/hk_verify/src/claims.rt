@@ -105,19 +105,19 @@ fn read_claimed<F: Shelf>(
     ensures counts { CountsLoads (result_err result) (F.faults shelf.old) (F.faults shelf.new) }
     ensures held { F.held shelf.new ≡ F.held shelf.old }
 {
-    let kernel = Wanted {
+    let first = Wanted {
         name: kernel,
         limit: KERNEL_LIMIT,
     };
-    let spec = Wanted {
+    let second = Wanted {
         name: spec,
         limit: SPEC_LIMIT,
     };
-    let cert = Wanted {
+    let third = Wanted {
         name: cert,
         limit: PROOF_LIMIT,
     };
-    let texts = match load_three(alloc, shelf, &kernel, &spec, &cert) {
+    let texts = match load_three(alloc, shelf, &first, &second, &third) {
         Ok(texts) => texts,
         Err(fault) => return Err(fault),
     };

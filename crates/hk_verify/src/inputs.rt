@@ -96,14 +96,14 @@ pub fn read_inputs<F: Shelf>(
     ensures counts { CountsLoads (result_err result) (F.faults shelf.old) (F.faults shelf.new) }
     ensures held { F.held shelf.new ≡ F.held shelf.old }
 {
-    let kernel = Wanted {
+    let first = Wanted {
         name: kernel,
         limit: KERNEL_LIMIT,
     };
-    let spec = Wanted {
+    let second = Wanted {
         name: spec,
         limit: SPEC_LIMIT,
     };
-    let texts = load_both(alloc, shelf, &kernel, &spec)?;
+    let texts = load_both(alloc, shelf, &first, &second)?;
     read_both(alloc, &texts.first, &texts.second)
 }

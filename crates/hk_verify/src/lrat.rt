@@ -82,15 +82,15 @@ fn try_proof<F: Shelf>(
     ensures counts { CountsLoads (result_err result) (F.faults shelf.old) (F.faults shelf.new) }
     ensures held { F.held shelf.new ≡ F.held shelf.old }
 {
-    let cnf = Wanted {
+    let first = Wanted {
         name: cnf,
         limit: PROOF_LIMIT,
     };
-    let proof = Wanted {
+    let second = Wanted {
         name: proof,
         limit: PROOF_LIMIT,
     };
-    let texts = load_both(alloc, shelf, &cnf, &proof)?;
+    let texts = load_both(alloc, shelf, &first, &second)?;
     let list = clauses(alloc, &texts.first)?;
     outcome(alloc, &list, &texts.second)
 }
