@@ -5,12 +5,14 @@
 //! stuck. A constant base goes to its object directly, and of all others only those objects count that the base may have.
 #![tactic(auto)]
 
+mod access;
 mod laws;
 mod loads;
 mod objects;
 mod reach;
 mod stores;
 
+pub use access::{Access, Store};
 pub use laws::{memories_are_kept, objects_keep_their_sizes};
 pub use loads::load;
 pub use objects::{align_of, size_of};

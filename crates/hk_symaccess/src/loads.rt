@@ -11,12 +11,13 @@ ghost use Rattle.hk_symvalue.specs.Rows.{Answers};
 ghost use Rattle.hk_symmem.specs.Guarded.{memory_at, IsOver};
 ghost use Rattle.hk_symaccess.specs.Accesses.{FitsMemory, LiesAt, loaded_number};
 
+use crate::access::{Access, Location};
 use crate::objects::{is_base, object_of};
 use crate::reach::{access_sticks, are_bytes};
 use hk_seq::Seq;
 use hk_symmem::{InitialReads, SymMemory};
 use hk_symvalue::words::{constant, number};
-use hk_symvalue::{SymMade, SymValue, logic, of_term, offset_of, ops};
+use hk_symvalue::{SymMade, logic, of_term, offset_of, ops};
 use hk_term::{TermId, Terms};
 use ir_code::Object;
 use ir_layout::Layout;
@@ -52,25 +53,24 @@ fn load_where<R: InitialReads>(
     memory: &SymMemory<R>,
     test: TermId,
     object: u32,
-    offset: TermId,
-    bytes: u32,
+    at: Location,
     rest: TermId,
 ) -> Result<TermId, AllocError>
     requires over { IsOver t.old memory.now }
     requires test { IsTruth t.old test }
     requires object { object < length memory.now.origins }
-    requires offset { IsWord t.old 64 offset }
-    requires bytes { IsWidth bytes }
-    requires rest { IsWord t.old (8 * bytes) rest }
+    requires offset { IsWord t.old 64 at.offset }
+    requires bytes { IsWidth at.bytes }
+    requires rest { IsWord t.old (8 * at.bytes) rest }
     ensures frame { Extends t.old t.new }
-    ensures word { IfOk result (λ r. IsWord t.new (8 * bytes) r) }
-    ensures here { IfOk result (λ r. (v : Reading) → is_true t.old test v ≡ true → value t.old offset v + bytes ≤ length (object_of (memory_at t.old memory.now v) object) → value t.new r v ≡ number_at bytes (value t.old offset v) (object_of (memory_at t.old memory.now v) object)) }
+    ensures word { IfOk result (λ r. IsWord t.new (8 * at.bytes) r) }
+    ensures here { IfOk result (λ r. (v : Reading) → is_true t.old test v ≡ true → value t.old at.offset v + at.bytes ≤ length (object_of (memory_at t.old memory.now v) object) → value t.new r v ≡ number_at at.bytes (value t.old at.offset v) (object_of (memory_at t.old memory.now v) object)) }
     ensures away { IfOk result (λ r. (v : Reading) → is_true t.old test v ≡ false → value t.new r v ≡ value t.old rest v) }
 {
     match constant(t, test) {
         Some(0) => Ok(rest),
         _ => {
-            let found = read(alloc, t, memory, object, offset, bytes)?;
+            let found = read(alloc, t, memory, object, at.offset, at.bytes)?;
             let made = ops::choose(t, test, found, rest)?;
             Ok(made)
         }
@@ -83,25 +83,23 @@ fn load_one<R: InitialReads>(
     alloc: Global,
     t: &mut Terms,
     memory: &SymMemory<R>,
-    base: TermId,
     object: u32,
-    offset: TermId,
-    bytes: u32,
+    at: Location,
     rest: TermId,
 ) -> Result<TermId, AllocError>
     requires over { IsOver t.old memory.now }
-    requires base { IsWord t.old 64 base }
+    requires base { IsWord t.old 64 at.base }
     requires object { object < length memory.now.origins }
-    requires offset { IsWord t.old 64 offset }
-    requires bytes { IsWidth bytes }
-    requires rest { IsWord t.old (8 * bytes) rest }
+    requires offset { IsWord t.old 64 at.offset }
+    requires bytes { IsWidth at.bytes }
+    requires rest { IsWord t.old (8 * at.bytes) rest }
     ensures frame { Extends t.old t.new }
-    ensures word { IfOk result (λ r. IsWord t.new (8 * bytes) r) }
-    ensures here { IfOk result (λ r. (v : Reading) → nat_eq (value t.old base v) (object + 2) ≡ true → value t.old offset v + bytes ≤ length (object_of (memory_at t.old memory.now v) object) → value t.new r v ≡ number_at bytes (value t.old offset v) (object_of (memory_at t.old memory.now v) object)) }
-    ensures away { IfOk result (λ r. (v : Reading) → nat_eq (value t.old base v) (object + 2) ≡ false → value t.new r v ≡ value t.old rest v) }
+    ensures word { IfOk result (λ r. IsWord t.new (8 * at.bytes) r) }
+    ensures here { IfOk result (λ r. (v : Reading) → nat_eq (value t.old at.base v) (object + 2) ≡ true → value t.old at.offset v + at.bytes ≤ length (object_of (memory_at t.old memory.now v) object) → value t.new r v ≡ number_at at.bytes (value t.old at.offset v) (object_of (memory_at t.old memory.now v) object)) }
+    ensures away { IfOk result (λ r. (v : Reading) → nat_eq (value t.old at.base v) (object + 2) ≡ false → value t.new r v ≡ value t.old rest v) }
 {
-    let test = is_base(t, base, object)?;
-    let made = load_where(alloc, t, memory, test, object, offset, bytes, rest)?;
+    let test = is_base(t, at.base, object)?;
+    let made = load_where(alloc, t, memory, test, object, at, rest)?;
     Ok(made)
 }
 
@@ -111,22 +109,20 @@ fn load_any<R: InitialReads>(
     t: &mut Terms,
     memory: &SymMemory<R>,
     count: u32,
-    base: TermId,
-    offset: TermId,
-    bytes: u32,
+    at: Location,
 ) -> Result<TermId, AllocError>
     requires over { IsOver t.old memory.now }
     requires count { count ≡ length memory.now.origins }
-    requires base { IsWord t.old 64 base }
-    requires offset { IsWord t.old 64 offset }
-    requires bytes { IsWidth bytes }
+    requires base { IsWord t.old 64 at.base }
+    requires offset { IsWord t.old 64 at.offset }
+    requires bytes { IsWidth at.bytes }
     ensures frame { Extends t.old t.new }
-    ensures word { IfOk result (λ r. IsWord t.new (8 * bytes) r) }
-    ensures value { IfOk result (λ r. (v : Reading) → LiesAt (memory_at t.old memory.now v) (value t.old base v) (value t.old offset v) bytes → value t.new r v ≡ number_at bytes (value t.old offset v) (object_of (memory_at t.old memory.now v) (value t.old base v - 2))) }
+    ensures word { IfOk result (λ r. IsWord t.new (8 * at.bytes) r) }
+    ensures value { IfOk result (λ r. (v : Reading) → LiesAt (memory_at t.old memory.now v) (value t.old at.base v) (value t.old at.offset v) at.bytes → value t.new r v ≡ number_at at.bytes (value t.old at.offset v) (object_of (memory_at t.old memory.now v) (value t.old at.base v - 2))) }
 {
-    let mut made = nothing(t, bytes)?;
+    let mut made = nothing(t, at.bytes)?;
     for object in 0..count {
-        made = load_one(alloc, t, memory, base, object, offset, bytes, made)?;
+        made = load_one(alloc, t, memory, object, at, made)?;
     }
     Ok(made)
 }
@@ -148,24 +144,22 @@ fn load_known<R: InitialReads>(
     memory: &SymMemory<R>,
     count: u32,
     known: u64,
-    base: TermId,
-    offset: TermId,
-    bytes: u32,
+    at: Location,
 ) -> Result<TermId, AllocError>
     requires over { IsOver t.old memory.now }
     requires count { count ≡ length memory.now.origins }
-    requires base { IsWord t.old 64 base }
-    requires known { (v : Reading) → value t.old base v ≡ known }
-    requires offset { IsWord t.old 64 offset }
-    requires bytes { IsWidth bytes }
+    requires base { IsWord t.old 64 at.base }
+    requires known { (v : Reading) → value t.old at.base v ≡ known }
+    requires offset { IsWord t.old 64 at.offset }
+    requires bytes { IsWidth at.bytes }
     ensures frame { Extends t.old t.new }
-    ensures word { IfOk result (λ r. IsWord t.new (8 * bytes) r) }
-    ensures value { IfOk result (λ r. (v : Reading) → LiesAt (memory_at t.old memory.now v) (value t.old base v) (value t.old offset v) bytes → value t.new r v ≡ number_at bytes (value t.old offset v) (object_of (memory_at t.old memory.now v) (value t.old base v - 2))) }
+    ensures word { IfOk result (λ r. IsWord t.new (8 * at.bytes) r) }
+    ensures value { IfOk result (λ r. (v : Reading) → LiesAt (memory_at t.old memory.now v) (value t.old at.base v) (value t.old at.offset v) at.bytes → value t.new r v ≡ number_at at.bytes (value t.old at.offset v) (object_of (memory_at t.old memory.now v) (value t.old at.base v - 2))) }
 {
-    let rest = nothing(t, bytes)?;
+    let rest = nothing(t, at.bytes)?;
     match object_of(known, count) {
         Some(object) => {
-            let made = load_one(alloc, t, memory, base, object, offset, bytes, rest)?;
+            let made = load_one(alloc, t, memory, object, at, rest)?;
             Ok(made)
         }
         None => Ok(rest),
@@ -178,22 +172,20 @@ fn load_number<R: InitialReads>(
     t: &mut Terms,
     memory: &SymMemory<R>,
     count: u32,
-    base: TermId,
-    offset: TermId,
-    bytes: u32,
+    at: Location,
 ) -> Result<TermId, AllocError>
     requires over { IsOver t.old memory.now }
     requires count { count ≡ length memory.now.origins }
-    requires base { IsWord t.old 64 base }
-    requires offset { IsWord t.old 64 offset }
-    requires bytes { IsWidth bytes }
+    requires base { IsWord t.old 64 at.base }
+    requires offset { IsWord t.old 64 at.offset }
+    requires bytes { IsWidth at.bytes }
     ensures frame { Extends t.old t.new }
-    ensures word { IfOk result (λ r. IsWord t.new (8 * bytes) r) }
-    ensures value { IfOk result (λ r. (v : Reading) → LiesAt (memory_at t.old memory.now v) (value t.old base v) (value t.old offset v) bytes → value t.new r v ≡ number_at bytes (value t.old offset v) (object_of (memory_at t.old memory.now v) (value t.old base v - 2))) }
+    ensures word { IfOk result (λ r. IsWord t.new (8 * at.bytes) r) }
+    ensures value { IfOk result (λ r. (v : Reading) → LiesAt (memory_at t.old memory.now v) (value t.old at.base v) (value t.old at.offset v) at.bytes → value t.new r v ≡ number_at at.bytes (value t.old at.offset v) (object_of (memory_at t.old memory.now v) (value t.old at.base v - 2))) }
 {
-    match constant(t, base) {
-        Some(known) => load_known(alloc, t, memory, count, known, base, offset, bytes),
-        None => load_any(alloc, t, memory, count, base, offset, bytes),
+    match constant(t, at.base) {
+        Some(known) => load_known(alloc, t, memory, count, known, at),
+        None => load_any(alloc, t, memory, count, at),
     }
 }
 
@@ -204,24 +196,25 @@ fn loaded<R: InitialReads>(
     layout: &Layout,
     objects: &Seq<Object>,
     memory: &SymMemory<R>,
-    bytes: u32,
-    align: u64,
-    address: SymValue,
+    access: Access,
 ) -> Result<SymMade, AllocError>
     requires fits { FitsMemory layout.now.objects objects.now memory.now }
     requires over { IsOver t.old memory.now }
-    requires address { IsSym t.old address }
-    requires bytes { are_bytes bytes ≡ true }
+    requires address { IsSym t.old access.address }
+    requires bytes { are_bytes access.bytes ≡ true }
     ensures frame { Extends t.old t.new }
     ensures made { IfOk result (λ r. IsMade t.new r) }
-    ensures answers { IfOk result (λ r. (v : Reading) → Answers (is_true t.new r.stuck v) (meaning t.new r.value v) (loaded_number (memory_at t.old memory.now v) objects.now bytes align (meaning t.old address v))) }
+    ensures answers { IfOk result (λ r. (v : Reading) → Answers (is_true t.new r.stuck v) (meaning t.new r.value v) (loaded_number (memory_at t.old memory.now v) objects.now access.bytes access.align (meaning t.old access.address v))) }
 {
-    let base = address.base;
-    let bits = address.bits;
-    let stuck = access_sticks(t, layout, objects, memory, bytes, align, address)?;
-    let offset = offset_of(t, bits)?;
+    let stuck = access_sticks(t, layout, objects, memory, access)?;
+    let offset = offset_of(t, access.address.bits)?;
     let count = layout.objects();
-    let number = load_number(alloc, t, memory, count, base, offset, bytes)?;
+    let at = Location {
+        base: access.address.base,
+        offset,
+        bytes: access.bytes,
+    };
+    let number = load_number(alloc, t, memory, count, at)?;
     let value = of_term(t, number)?;
     Ok(SymMade { stuck, value })
 }
@@ -244,19 +237,17 @@ pub fn load<R: InitialReads>(
     layout: &Layout,
     objects: &Seq<Object>,
     memory: &SymMemory<R>,
-    bytes: u32,
-    align: u64,
-    address: SymValue,
+    access: Access,
 ) -> Result<SymMade, AllocError>
     requires fits { FitsMemory layout.now.objects objects.now memory.now }
     requires over { IsOver t.old memory.now }
-    requires address { IsSym t.old address }
+    requires address { IsSym t.old access.address }
     ensures frame { Extends t.old t.new }
     ensures made { IfOk result (λ r. IsMade t.new r) }
-    ensures answers { IfOk result (λ r. (v : Reading) → Answers (is_true t.new r.stuck v) (meaning t.new r.value v) (loaded_number (memory_at t.old memory.now v) objects.now bytes align (meaning t.old address v))) }
+    ensures answers { IfOk result (λ r. (v : Reading) → Answers (is_true t.new r.stuck v) (meaning t.new r.value v) (loaded_number (memory_at t.old memory.now v) objects.now access.bytes access.align (meaning t.old access.address v))) }
 {
-    if are_bytes(bytes) {
-        loaded(alloc, t, layout, objects, memory, bytes, align, address)
+    if are_bytes(access.bytes) {
+        loaded(alloc, t, layout, objects, memory, access)
     } else {
         none_loaded(t)
     }

@@ -10,10 +10,11 @@ ghost use Rattle.hk_symvalue.specs.Rows.{Reaches};
 ghost use Rattle.hk_symmem.specs.Guarded.{memory_at};
 ghost use Rattle.hk_symaccess.specs.Accesses.{FitsMemory};
 
+use crate::access::Access;
 use crate::objects::{align_of, size_of};
 use hk_seq::Seq;
 use hk_symmem::{InitialReads, SymMemory};
-use hk_symvalue::{SymValue, reach_sticks};
+use hk_symvalue::reach_sticks;
 use hk_term::{TermId, Terms};
 use ir_code::Object;
 use ir_layout::Layout;
@@ -33,18 +34,17 @@ pub(crate) fn access_sticks<R: InitialReads>(
     layout: &Layout,
     objects: &Seq<Object>,
     memory: &SymMemory<R>,
-    bytes: u32,
-    align: u64,
-    address: SymValue,
+    access: Access,
 ) -> Result<TermId, AllocError>
     requires fits { FitsMemory layout.now.objects objects.now memory.now }
-    requires address { IsSym t.old address }
+    requires address { IsSym t.old access.address }
     ensures frame { Extends t.old t.new }
     ensures truth { IfOk result (λ r. IsTruth t.new r) }
-    ensures reaches { IfOk result (λ r. (v : Reading) → Reaches (is_true t.new r v) (reached (memory_at t.old memory.now v) objects.now bytes align (meaning t.old address v))) }
+    ensures reaches { IfOk result (λ r. (v : Reading) → Reaches (is_true t.new r v) (reached (memory_at t.old memory.now v) objects.now access.bytes access.align (meaning t.old access.address v))) }
 {
-    let size = size_of(t, layout, memory, address.base)?;
-    let object_align = align_of(t, layout, objects, address.base)?;
-    let stuck = reach_sticks(t, size, object_align, u64::from(bytes), align, address)?;
+    let size = size_of(t, layout, memory, access.address.base)?;
+    let object_align = align_of(t, layout, objects, access.address.base)?;
+    let bytes = u64::from(access.bytes);
+    let stuck = reach_sticks(t, size, object_align, bytes, access.align, access.address)?;
     Ok(stuck)
 }

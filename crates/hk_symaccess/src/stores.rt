@@ -11,6 +11,7 @@ ghost use Rattle.hk_symvalue.specs.Meaning.{IsTruth, IsWord, IsSym, is_true, mea
 ghost use Rattle.hk_symmem.specs.Guarded.{memory_at, IsOver, IsMutable};
 ghost use Rattle.hk_symaccess.specs.Accesses.{FitsMemory, MayWrite, Refuses, Stores, written_up_to};
 
+use crate::access::{Access, Location, Store};
 use crate::objects::{is_base, is_fixed, object_at, object_of};
 use crate::reach::{access_sticks, are_bytes};
 use hk_seq::Seq;
@@ -22,31 +23,38 @@ use ir_code::Object;
 use ir_layout::Layout;
 use std::alloc::AllocError;
 
+// A number that is written at a base where a test is true.
+#[derive(Clone, Copy)]
+struct Write {
+    go: TermId,
+    at: Location,
+    number: TermId,
+}
+
 // Writes a number to an object where a test is true.
 fn write_where<R: InitialReads>(
     t: &Terms,
     memory: &mut SymMemory<R>,
     test: TermId,
     object: u32,
-    offset: TermId,
-    bytes: u32,
+    at: Location,
     number: TermId,
 ) -> Result<(), AllocError>
     requires over { IsOver t.now memory.old }
     requires test { IsTruth t.now test }
     requires object { IsMutable memory.old object }
-    requires offset { IsWord t.now 64 offset }
-    requires bytes { IsWidth bytes }
-    requires number { IsWord t.now (8 * bytes) number }
-    requires inside { (v : Reading) → is_true t.now test v ≡ true → value t.now offset v + bytes ≤ length (object_of (memory_at t.now memory.old v) object) }
+    requires offset { IsWord t.now 64 at.offset }
+    requires bytes { IsWidth at.bytes }
+    requires number { IsWord t.now (8 * at.bytes) number }
+    requires inside { (v : Reading) → is_true t.now test v ≡ true → value t.now at.offset v + at.bytes ≤ length (object_of (memory_at t.now memory.old v) object) }
     ensures origins { memory.new.origins ≡ memory.old.origins }
     ensures over { IfOk result (λ _. IsOver t.now memory.new) }
-    ensures value { IfOk result (λ _. (v : Reading) → memory_at t.now memory.new v ≡ (if is_true t.now test v then write_to (memory_at t.now memory.old v) bytes object (value t.now offset v) (value t.now number v) else memory_at t.now memory.old v)) }
+    ensures value { IfOk result (λ _. (v : Reading) → memory_at t.now memory.new v ≡ (if is_true t.now test v then write_to (memory_at t.now memory.old v) at.bytes object (value t.now at.offset v) (value t.now number v) else memory_at t.now memory.old v)) }
 {
     match constant(t, test) {
         Some(0) => Ok(()),
         _ => {
-            memory.write(test, object, offset, bytes, number)?;
+            memory.write(test, object, at.offset, at.bytes, number)?;
             Ok(())
         }
     }
@@ -59,34 +67,30 @@ fn write_one<R: InitialReads>(
     layout: &Layout,
     objects: &Seq<Object>,
     memory: &mut SymMemory<R>,
-    go: TermId,
-    base: TermId,
     object: u32,
-    offset: TermId,
-    bytes: u32,
-    number: TermId,
+    write: Write,
 ) -> Result<(), AllocError>
     requires fits { FitsMemory layout.now.objects objects.now memory.old }
     requires over { IsOver t.old memory.old }
-    requires go { IsTruth t.old go }
-    requires base { IsWord t.old 64 base }
+    requires go { IsTruth t.old write.go }
+    requires base { IsWord t.old 64 write.at.base }
     requires object { object < length layout.now.objects }
-    requires offset { IsWord t.old 64 offset }
-    requires bytes { IsWidth bytes }
-    requires number { IsWord t.old (8 * bytes) number }
-    requires inside { (v : Reading) → is_true t.old go v ≡ true → nat_eq (value t.old base v) (object + 2) ≡ true → value t.old offset v + bytes ≤ length (object_of (memory_at t.old memory.old v) object) }
-    requires mutable { (v : Reading) → is_true t.old go v ≡ true → nat_eq (value t.old base v) (object + 2) ≡ true → (object_at objects.now object).constant ≡ false }
+    requires offset { IsWord t.old 64 write.at.offset }
+    requires bytes { IsWidth write.at.bytes }
+    requires number { IsWord t.old (8 * write.at.bytes) write.number }
+    requires inside { (v : Reading) → is_true t.old write.go v ≡ true → nat_eq (value t.old write.at.base v) (object + 2) ≡ true → value t.old write.at.offset v + write.at.bytes ≤ length (object_of (memory_at t.old memory.old v) object) }
+    requires mutable { (v : Reading) → is_true t.old write.go v ≡ true → nat_eq (value t.old write.at.base v) (object + 2) ≡ true → (object_at objects.now object).constant ≡ false }
     ensures frame { Extends t.old t.new }
     ensures origins { memory.new.origins ≡ memory.old.origins }
     ensures over { IfOk result (λ _. IsOver t.new memory.new) }
-    ensures value { IfOk result (λ _. (v : Reading) → memory_at t.new memory.new v ≡ (if is_true t.old go v && nat_eq (value t.old base v) (object + 2) then write_to (memory_at t.old memory.old v) bytes object (value t.old offset v) (value t.old number v) else memory_at t.old memory.old v)) }
+    ensures value { IfOk result (λ _. (v : Reading) → memory_at t.new memory.new v ≡ (if is_true t.old write.go v && nat_eq (value t.old write.at.base v) (object + 2) then write_to (memory_at t.old memory.old v) write.at.bytes object (value t.old write.at.offset v) (value t.old write.number v) else memory_at t.old memory.old v)) }
 {
-    let test = is_base(t, base, object)?;
-    let both = logic::and(t, go, test)?;
+    let test = is_base(t, write.at.base, object)?;
+    let both = logic::and(t, write.go, test)?;
     if object_at(objects, object).constant {
         Ok(())
     } else {
-        write_where(t, memory, both, object, offset, bytes, number)?;
+        write_where(t, memory, both, object, write.at, write.number)?;
         Ok(())
     }
 }
@@ -97,29 +101,23 @@ fn write_any<R: InitialReads>(
     layout: &Layout,
     objects: &Seq<Object>,
     memory: &mut SymMemory<R>,
-    go: TermId,
-    base: TermId,
-    offset: TermId,
-    bytes: u32,
-    number: TermId,
+    write: Write,
 ) -> Result<(), AllocError>
     requires fits { FitsMemory layout.now.objects objects.now memory.old }
     requires over { IsOver t.old memory.old }
-    requires go { IsTruth t.old go }
-    requires base { IsWord t.old 64 base }
-    requires offset { IsWord t.old 64 offset }
-    requires bytes { IsWidth bytes }
-    requires number { IsWord t.old (8 * bytes) number }
-    requires lies { (v : Reading) → is_true t.old go v ≡ true → nat_le (value t.old base v) 1 ≡ false → MayWrite (memory_at t.old memory.old v) objects.now (value t.old base v) (value t.old offset v) bytes }
+    requires go { IsTruth t.old write.go }
+    requires base { IsWord t.old 64 write.at.base }
+    requires offset { IsWord t.old 64 write.at.offset }
+    requires bytes { IsWidth write.at.bytes }
+    requires number { IsWord t.old (8 * write.at.bytes) write.number }
+    requires lies { (v : Reading) → is_true t.old write.go v ≡ true → nat_le (value t.old write.at.base v) 1 ≡ false → MayWrite (memory_at t.old memory.old v) objects.now (value t.old write.at.base v) (value t.old write.at.offset v) write.at.bytes }
     ensures frame { Extends t.old t.new }
     ensures origins { memory.new.origins ≡ memory.old.origins }
     ensures over { IfOk result (λ _. IsOver t.new memory.new) }
-    ensures value { IfOk result (λ _. (v : Reading) → memory_at t.new memory.new v ≡ written_up_to (length layout.now.objects) (is_true t.old go v) (memory_at t.old memory.old v) (value t.old base v) (value t.old offset v) bytes (value t.old number v)) }
+    ensures value { IfOk result (λ _. (v : Reading) → memory_at t.new memory.new v ≡ written_up_to (length layout.now.objects) (is_true t.old write.go v) (memory_at t.old memory.old v) (value t.old write.at.base v) (value t.old write.at.offset v) write.at.bytes (value t.old write.number v)) }
 {
     for object in 0..layout.objects() {
-        write_one(
-            t, layout, objects, memory, go, base, object, offset, bytes, number,
-        )?;
+        write_one(t, layout, objects, memory, object, write)?;
     }
     Ok(())
 }
@@ -130,32 +128,26 @@ fn write_known<R: InitialReads>(
     layout: &Layout,
     objects: &Seq<Object>,
     memory: &mut SymMemory<R>,
-    go: TermId,
     known: u64,
-    base: TermId,
-    offset: TermId,
-    bytes: u32,
-    number: TermId,
+    write: Write,
 ) -> Result<(), AllocError>
     requires fits { FitsMemory layout.now.objects objects.now memory.old }
     requires over { IsOver t.old memory.old }
-    requires go { IsTruth t.old go }
-    requires base { IsWord t.old 64 base }
-    requires known { (v : Reading) → value t.old base v ≡ known }
-    requires offset { IsWord t.old 64 offset }
-    requires bytes { IsWidth bytes }
-    requires number { IsWord t.old (8 * bytes) number }
-    requires lies { (v : Reading) → is_true t.old go v ≡ true → nat_le (value t.old base v) 1 ≡ false → MayWrite (memory_at t.old memory.old v) objects.now (value t.old base v) (value t.old offset v) bytes }
+    requires go { IsTruth t.old write.go }
+    requires base { IsWord t.old 64 write.at.base }
+    requires known { (v : Reading) → value t.old write.at.base v ≡ known }
+    requires offset { IsWord t.old 64 write.at.offset }
+    requires bytes { IsWidth write.at.bytes }
+    requires number { IsWord t.old (8 * write.at.bytes) write.number }
+    requires lies { (v : Reading) → is_true t.old write.go v ≡ true → nat_le (value t.old write.at.base v) 1 ≡ false → MayWrite (memory_at t.old memory.old v) objects.now (value t.old write.at.base v) (value t.old write.at.offset v) write.at.bytes }
     ensures frame { Extends t.old t.new }
     ensures origins { memory.new.origins ≡ memory.old.origins }
     ensures over { IfOk result (λ _. IsOver t.new memory.new) }
-    ensures value { IfOk result (λ _. (v : Reading) → memory_at t.new memory.new v ≡ written_up_to (length layout.now.objects) (is_true t.old go v) (memory_at t.old memory.old v) (value t.old base v) (value t.old offset v) bytes (value t.old number v)) }
+    ensures value { IfOk result (λ _. (v : Reading) → memory_at t.new memory.new v ≡ written_up_to (length layout.now.objects) (is_true t.old write.go v) (memory_at t.old memory.old v) (value t.old write.at.base v) (value t.old write.at.offset v) write.at.bytes (value t.old write.number v)) }
 {
     match object_of(known, layout.objects()) {
         Some(object) => {
-            write_one(
-                t, layout, objects, memory, go, base, object, offset, bytes, number,
-            )?;
+            write_one(t, layout, objects, memory, object, write)?;
             Ok(())
         }
         None => Ok(()),
@@ -168,32 +160,24 @@ fn write_number<R: InitialReads>(
     layout: &Layout,
     objects: &Seq<Object>,
     memory: &mut SymMemory<R>,
-    go: TermId,
-    base: TermId,
-    offset: TermId,
-    bytes: u32,
-    number: TermId,
+    write: Write,
 ) -> Result<(), AllocError>
     requires fits { FitsMemory layout.now.objects objects.now memory.old }
     requires over { IsOver t.old memory.old }
-    requires go { IsTruth t.old go }
-    requires base { IsWord t.old 64 base }
-    requires offset { IsWord t.old 64 offset }
-    requires bytes { IsWidth bytes }
-    requires number { IsWord t.old (8 * bytes) number }
-    requires lies { (v : Reading) → is_true t.old go v ≡ true → nat_le (value t.old base v) 1 ≡ false → MayWrite (memory_at t.old memory.old v) objects.now (value t.old base v) (value t.old offset v) bytes }
+    requires go { IsTruth t.old write.go }
+    requires base { IsWord t.old 64 write.at.base }
+    requires offset { IsWord t.old 64 write.at.offset }
+    requires bytes { IsWidth write.at.bytes }
+    requires number { IsWord t.old (8 * write.at.bytes) write.number }
+    requires lies { (v : Reading) → is_true t.old write.go v ≡ true → nat_le (value t.old write.at.base v) 1 ≡ false → MayWrite (memory_at t.old memory.old v) objects.now (value t.old write.at.base v) (value t.old write.at.offset v) write.at.bytes }
     ensures frame { Extends t.old t.new }
     ensures origins { memory.new.origins ≡ memory.old.origins }
     ensures over { IfOk result (λ _. IsOver t.new memory.new) }
-    ensures value { IfOk result (λ _. (v : Reading) → memory_at t.new memory.new v ≡ written_up_to (length layout.now.objects) (is_true t.old go v) (memory_at t.old memory.old v) (value t.old base v) (value t.old offset v) bytes (value t.old number v)) }
+    ensures value { IfOk result (λ _. (v : Reading) → memory_at t.new memory.new v ≡ written_up_to (length layout.now.objects) (is_true t.old write.go v) (memory_at t.old memory.old v) (value t.old write.at.base v) (value t.old write.at.offset v) write.at.bytes (value t.old write.number v)) }
 {
-    match constant(t, base) {
-        Some(known) => {
-            write_known(
-                t, layout, objects, memory, go, known, base, offset, bytes, number,
-            )
-        }
-        None => write_any(t, layout, objects, memory, go, base, offset, bytes, number),
+    match constant(t, write.at.base) {
+        Some(known) => write_known(t, layout, objects, memory, known, write),
+        None => write_any(t, layout, objects, memory, write),
     }
 }
 
@@ -203,24 +187,21 @@ fn store_sticks<R: InitialReads>(
     layout: &Layout,
     objects: &Seq<Object>,
     memory: &SymMemory<R>,
-    bytes: u32,
-    align: u64,
     given: SymValue,
-    address: SymValue,
+    access: Access,
 ) -> Result<TermId, AllocError>
     requires fits { FitsMemory layout.now.objects objects.now memory.now }
     requires given { IsSym t.old given }
-    requires address { IsSym t.old address }
-    requires bytes { are_bytes bytes ≡ true }
-    requires align { align ≢ 0 }
+    requires address { IsSym t.old access.address }
+    requires bytes { are_bytes access.bytes ≡ true }
+    requires align { access.align ≢ 0 }
     ensures frame { Extends t.old t.new }
     ensures truth { IfOk result (λ r. IsTruth t.new r) }
-    ensures refuses { IfOk result (λ r. (v : Reading) → Refuses (is_true t.new r v) (stored (memory_at t.old memory.now v) objects.now bytes align (Some (meaning t.old given v)) (Some (meaning t.old address v)))) }
-    ensures lies { IfOk result (λ r. (v : Reading) → is_true t.new r v ≡ false → nat_le (value t.old address.base v) 1 ≡ false → MayWrite (memory_at t.old memory.now v) objects.now (value t.old address.base v) (value t.old address.bits v) bytes) }
+    ensures refuses { IfOk result (λ r. (v : Reading) → Refuses (is_true t.new r v) (stored (memory_at t.old memory.now v) objects.now access.bytes access.align (Some (meaning t.old given v)) (Some (meaning t.old access.address v)))) }
+    ensures lies { IfOk result (λ r. (v : Reading) → is_true t.new r v ≡ false → nat_le (value t.old access.address.base v) 1 ≡ false → MayWrite (memory_at t.old memory.now v) objects.now (value t.old access.address.base v) (value t.old access.address.bits v) access.bytes) }
 {
-    let base = address.base;
-    let nowhere = access_sticks(t, layout, objects, memory, bytes, align, address)?;
-    let fixed = is_fixed(t, layout, objects, base)?;
+    let nowhere = access_sticks(t, layout, objects, memory, access)?;
+    let fixed = is_fixed(t, layout, objects, access.address.base)?;
     let refused = logic::or(t, fixed, given.poison)?;
     let stuck = logic::or(t, nowhere, refused)?;
     Ok(stuck)
@@ -245,28 +226,34 @@ fn write_value<R: InitialReads>(
     layout: &Layout,
     objects: &Seq<Object>,
     memory: &mut SymMemory<R>,
-    go: TermId,
-    bytes: u32,
-    n: TermId,
-    base: TermId,
-    place: TermId,
+    store: Store,
 ) -> Result<(), AllocError>
     requires fits { FitsMemory layout.now.objects objects.now memory.old }
     requires over { IsOver t.old memory.old }
-    requires go { IsTruth t.old go }
-    requires number { n < length t.old }
-    requires base { IsWord t.old 64 base }
-    requires place { place < length t.old }
-    requires bytes { IsWidth bytes }
-    requires lies { (v : Reading) → is_true t.old go v ≡ true → nat_le (value t.old base v) 1 ≡ false → MayWrite (memory_at t.old memory.old v) objects.now (value t.old base v) (value t.old place v) bytes }
+    requires go { IsTruth t.old store.guard }
+    requires number { store.value.bits < length t.old }
+    requires base { IsWord t.old 64 store.access.address.base }
+    requires place { store.access.address.bits < length t.old }
+    requires bytes { IsWidth store.access.bytes }
+    requires lies { (v : Reading) → is_true t.old store.guard v ≡ true → nat_le (value t.old store.access.address.base v) 1 ≡ false → MayWrite (memory_at t.old memory.old v) objects.now (value t.old store.access.address.base v) (value t.old store.access.address.bits v) store.access.bytes }
     ensures frame { Extends t.old t.new }
     ensures origins { memory.new.origins ≡ memory.old.origins }
     ensures over { IfOk result (λ _. IsOver t.new memory.new) }
-    ensures value { IfOk result (λ _. (v : Reading) → memory_at t.new memory.new v ≡ written_up_to (length layout.now.objects) (is_true t.old go v) (memory_at t.old memory.old v) (value t.old base v) (value t.old place v) bytes (value t.old n v % 2 ^ (8 * bytes))) }
+    ensures value { IfOk result (λ _. (v : Reading) → memory_at t.new memory.new v ≡ written_up_to (length layout.now.objects) (is_true t.old store.guard v) (memory_at t.old memory.old v) (value t.old store.access.address.base v) (value t.old store.access.address.bits v) store.access.bytes (value t.old store.value.bits v % 2 ^ (8 * store.access.bytes))) }
 {
-    let offset = offset_of(t, place)?;
-    let number = at_width(t, 8 * bytes, n)?;
-    write_number(t, layout, objects, memory, go, base, offset, bytes, number)?;
+    let offset = offset_of(t, store.access.address.bits)?;
+    let number = at_width(t, 8 * store.access.bytes, store.value.bits)?;
+    let at = Location {
+        base: store.access.address.base,
+        offset,
+        bytes: store.access.bytes,
+    };
+    let write = Write {
+        go: store.guard,
+        at,
+        number,
+    };
+    write_number(t, layout, objects, memory, write)?;
     Ok(())
 }
 
@@ -276,32 +263,30 @@ fn stored<R: InitialReads>(
     layout: &Layout,
     objects: &Seq<Object>,
     memory: &mut SymMemory<R>,
-    guard: TermId,
-    bytes: u32,
-    align: u64,
-    value: SymValue,
-    address: SymValue,
+    store: Store,
 ) -> Result<TermId, AllocError>
     requires fits { FitsMemory layout.now.objects objects.now memory.old }
     requires over { IsOver t.old memory.old }
-    requires guard { IsTruth t.old guard }
-    requires value { IsSym t.old value }
-    requires address { IsSym t.old address }
-    requires bytes { are_bytes bytes ≡ true }
-    requires align { align ≢ 0 }
+    requires guard { IsTruth t.old store.guard }
+    requires value { IsSym t.old store.value }
+    requires address { IsSym t.old store.access.address }
+    requires bytes { are_bytes store.access.bytes ≡ true }
+    requires align { store.access.align ≢ 0 }
     ensures frame { Extends t.old t.new }
     ensures origins { memory.new.origins ≡ memory.old.origins }
     ensures over { IfOk result (λ _. IsOver t.new memory.new) }
     ensures truth { IfOk result (λ r. IsTruth t.new r) }
-    ensures away { IfOk result (λ _. (v : Reading) → is_true t.old guard v ≡ false → memory_at t.new memory.new v ≡ memory_at t.old memory.old v) }
-    ensures here { IfOk result (λ r. (v : Reading) → is_true t.old guard v ≡ true → Stores (is_true t.new r v) (memory_at t.new memory.new v) (memory_at t.old memory.old v) bytes (stored (memory_at t.old memory.old v) objects.now bytes align (Some (meaning t.old value v)) (Some (meaning t.old address v)))) }
+    ensures away { IfOk result (λ _. (v : Reading) → is_true t.old store.guard v ≡ false → memory_at t.new memory.new v ≡ memory_at t.old memory.old v) }
+    ensures here { IfOk result (λ r. (v : Reading) → is_true t.old store.guard v ≡ true → Stores (is_true t.new r v) (memory_at t.new memory.new v) (memory_at t.old memory.old v) store.access.bytes (stored (memory_at t.old memory.old v) objects.now store.access.bytes store.access.align (Some (meaning t.old store.value v)) (Some (meaning t.old store.access.address v)))) }
 {
-    let number = value.bits;
-    let base = address.base;
-    let place = address.bits;
-    let stuck = store_sticks(t, layout, objects, memory, bytes, align, value, address)?;
-    let go = goes_on(t, guard, stuck)?;
-    write_value(t, layout, objects, memory, go, bytes, number, base, place)?;
+    let stuck = store_sticks(t, layout, objects, memory, store.value, store.access)?;
+    let go = goes_on(t, store.guard, stuck)?;
+    let passing = Store {
+        guard: go,
+        value: store.value,
+        access: store.access,
+    };
+    write_value(t, layout, objects, memory, passing)?;
     Ok(stuck)
 }
 
@@ -314,32 +299,26 @@ pub fn store<R: InitialReads>(
     layout: &Layout,
     objects: &Seq<Object>,
     memory: &mut SymMemory<R>,
-    guard: TermId,
-    bytes: u32,
-    align: u64,
-    value: SymValue,
-    address: SymValue,
+    store: Store,
 ) -> Result<TermId, AllocError>
     requires fits { FitsMemory layout.now.objects objects.now memory.old }
     requires over { IsOver t.old memory.old }
-    requires guard { IsTruth t.old guard }
-    requires value { IsSym t.old value }
-    requires address { IsSym t.old address }
+    requires guard { IsTruth t.old store.guard }
+    requires value { IsSym t.old store.value }
+    requires address { IsSym t.old store.access.address }
     ensures frame { Extends t.old t.new }
     ensures origins { memory.new.origins ≡ memory.old.origins }
     ensures fits { FitsMemory layout.now.objects objects.now memory.new }
     ensures over { IfOk result (λ _. IsOver t.new memory.new) }
     ensures truth { IfOk result (λ r. IsTruth t.new r) }
-    ensures away { IfOk result (λ _. (v : Reading) → is_true t.old guard v ≡ false → memory_at t.new memory.new v ≡ memory_at t.old memory.old v) }
-    ensures here { IfOk result (λ r. (v : Reading) → is_true t.old guard v ≡ true → Stores (is_true t.new r v) (memory_at t.new memory.new v) (memory_at t.old memory.old v) bytes (stored (memory_at t.old memory.old v) objects.now bytes align (Some (meaning t.old value v)) (Some (meaning t.old address v)))) }
+    ensures away { IfOk result (λ _. (v : Reading) → is_true t.old store.guard v ≡ false → memory_at t.new memory.new v ≡ memory_at t.old memory.old v) }
+    ensures here { IfOk result (λ r. (v : Reading) → is_true t.old store.guard v ≡ true → Stores (is_true t.new r v) (memory_at t.new memory.new v) (memory_at t.old memory.old v) store.access.bytes (stored (memory_at t.old memory.old v) objects.now store.access.bytes store.access.align (Some (meaning t.old store.value v)) (Some (meaning t.old store.access.address v)))) }
 {
-    if align == 0 {
+    if store.access.align == 0 {
         let stuck = logic::constant(t, true)?;
         Ok(stuck)
-    } else if are_bytes(bytes) {
-        stored(
-            t, layout, objects, memory, guard, bytes, align, value, address,
-        )
+    } else if are_bytes(store.access.bytes) {
+        stored(t, layout, objects, memory, store)
     } else {
         let stuck = logic::constant(t, true)?;
         Ok(stuck)

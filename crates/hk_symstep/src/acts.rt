@@ -19,7 +19,7 @@ ghost use Rattle.hk_symstep.specs.Steps.{AnswersComputed, AnswersPasses, IsCompu
 use crate::arguments::poisoned;
 use crate::file::SymFile;
 use crate::operands::{operand, two};
-use crate::state::SymComputed;
+use crate::state::{SlotAccess, SymComputed};
 use crate::{loads, rows};
 use hk_seq::Seq;
 use hk_symmem::{InitialReads, SymMemory};
@@ -432,9 +432,8 @@ fn slot_given<R: InitialReads>(
     layout: &Layout,
     memory: &SymMemory<R>,
     file: &SymFile,
-    align: u64,
     value: &Input,
-    slot: u32,
+    to: SlotAccess,
 ) -> Result<SymComputed, AllocError>
     requires layout { IsMemoryOf layout.now.objects memory.now }
     requires whole { AreWhole layout.now.objects }
@@ -442,11 +441,11 @@ fn slot_given<R: InitialReads>(
     requires file { IsFile t.old file.now }
     ensures frame { Extends t.old t.new }
     ensures within { IfOk result (λ r. IsComputed t.new r) }
-    ensures answers { IfOk result (λ r. (v : Reading) → AnswersComputed t.new v r (steps.slot_stored align (definition.value_of (memory_at t.old memory.now v) (registers_of t.old v file.now) value.now) (definition.held_at (registers_of t.old v file.now) slot))) }
+    ensures answers { IfOk result (λ r. (v : Reading) → AnswersComputed t.new v r (steps.slot_stored to.align (definition.value_of (memory_at t.old memory.now v) (registers_of t.old v file.now) value.now) (definition.held_at (registers_of t.old v file.now) to.slot))) }
 {
     let stored = operand(t, layout, memory, file, value)?;
-    let held = file.held(slot);
-    let made = loads::slot_stored(t, align, stored, held)?;
+    let held = file.held(to.slot);
+    let made = loads::slot_stored(t, to.align, stored, held)?;
     Ok(made)
 }
 
@@ -456,9 +455,8 @@ pub fn stored_slot<R: InitialReads>(
     layout: &Layout,
     memory: &SymMemory<R>,
     file: &SymFile,
-    align: u64,
     value: &Input,
-    slot: u32,
+    to: SlotAccess,
 ) -> Result<SymComputed, AllocError>
     requires layout { IsMemoryOf layout.now.objects memory.now }
     requires whole { AreWhole layout.now.objects }
@@ -466,8 +464,8 @@ pub fn stored_slot<R: InitialReads>(
     requires file { IsFile t.old file.now }
     ensures frame { Extends t.old t.new }
     ensures within { IfOk result (λ r. IsComputed t.new r) }
-    ensures answers { IfOk result (λ r. (v : Reading) (rs : Registers) → Covers t.old v file.now rs → AnswersComputed t.new v r (steps.slot_stored align (definition.value_of (memory_at t.old memory.now v) rs value.now) (definition.held_at rs slot))) }
+    ensures answers { IfOk result (λ r. (v : Reading) (rs : Registers) → Covers t.old v file.now rs → AnswersComputed t.new v r (steps.slot_stored to.align (definition.value_of (memory_at t.old memory.now v) rs value.now) (definition.held_at rs to.slot))) }
 {
-    let made = slot_given(t, layout, memory, file, align, value, slot)?;
+    let made = slot_given(t, layout, memory, file, value, to)?;
     Ok(made)
 }

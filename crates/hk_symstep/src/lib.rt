@@ -22,4 +22,4 @@ pub use file::SymFile;
 pub use laws::{covers_grows, held_grows};
 pub use operands::operand;
 pub use setting::set;
-pub use state::{SymComputed, SymHeld, SymSlot};
+pub use state::{SlotAccess, SymComputed, SymHeld, SymSlot};

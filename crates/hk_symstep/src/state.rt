@@ -11,6 +11,13 @@ pub struct SymSlot {
     pub stored: SymValue,
 }
 
+/// A slot that is accessed: the register that holds it, and the alignment of the access in bytes.
+#[derive(Clone, Copy)]
+pub struct SlotAccess {
+    pub slot: u32,
+    pub align: u64,
+}
+
 /// What a register holds.
 #[derive(Clone, Copy, Debug)]
 pub enum SymHeld {
