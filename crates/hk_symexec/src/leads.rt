@@ -90,7 +90,8 @@ fn branch_on<R: InitialReads>(
     let known = stick(t, x, condition.poison)?;
     let zero = truths::equals(t, condition.bits, 0)?;
     let BranchEdges { from, yes, no } = edges;
-    let other = jump(alloc, t, setting, memory, known, Edge { from, to: no }, zero)?;
+    let away = Edge { from, to: no };
+    let other = jump(alloc, t, setting, memory, known, away, zero)?;
     let made = goto(alloc, t, setting, memory, other, Edge { from, to: yes })?;
     Ok(made)
 }

@@ -77,9 +77,20 @@ fn call_code<R: InitialReads>(
 {
     let poisoned = passed(t, setting.layout, memory, &x.file, site.arguments)?;
     let known = settle_passes(t, x, poisoned)?;
-    let file = first_file(alloc, t, setting.layout, memory, &known.file, site.arguments, code)?;
+    let file = first_file(
+        alloc,
+        t,
+        setting.layout,
+        memory,
+        &known.file,
+        site.arguments,
+        code,
+    )?;
     let begun = begin(alloc, t, &known, file, code.blocks.len())?;
-    let inner = Setting { function: site.called, ..*setting };
+    let inner = Setting {
+        function: site.called,
+        ..*setting
+    };
     let after = run_function(alloc, t, &inner, memory, begun)?;
     let made = resume(t, known, after, site.step.result)?;
     Ok(made)
