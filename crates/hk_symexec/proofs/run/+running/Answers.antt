@@ -112,13 +112,13 @@ call-returns-in-None-clause-tracks g t c = λ v go e h.
 pub call-returns-in_ok-made-in-Some-clause-tracks : goal.call-returns-in_ok-made-in-Some-clause-tracks
 call-returns-in_ok-made-in-Some-clause-tracks g t c = λ v go e h.
     let there : slice_get c.args.setting.now.program.now.functions c.args.site.now.called ≡ Some c.in-Some.code.now = c.in-Some.ensures.some in
-    let count : nat_eq (length c.args.site.now.arguments.now) c.in-Some.code.now.parameters ≡ true = eq-eqb (length c.args.site.now.arguments.now) c.in-Some.code.now.parameters c.if-arguments-code.true in
+    let count : nat_eq (length c.args.site.now.arguments.now) c.in-Some.code.now.parameters ≡ true = eq-eqb (length c.args.site.now.arguments.now) c.in-Some.code.now.parameters c.if-site-code.true in
     c.in_ok-made-in-Some.ensures.tracks v go e
     (subst (λ b. Tracks c.args.setting.now.program.now c.args.setting.now.function (seen c.args.t.now v c.args.x) (memory_at c.args.t.now c.args.memory.now v) (λ rs m. (if b then on_passed (walk c.args.setting.now.program.now (order_in c.args.setting.now.orders.now) c.args.setting.now.depth) c.args.site.now.step.now c.args.site.now.called rs m go (first_registers c.in-Some.code.now (argument_registers m rs c.args.site.now.arguments.now)) (arguments_pass m rs c.args.site.now.arguments.now) else Stops Lost)) e) count
     (subst (λ o. Tracks c.args.setting.now.program.now c.args.setting.now.function (seen c.args.t.now v c.args.x) (memory_at c.args.t.now c.args.memory.now v) (λ rs m. on_call (walk c.args.setting.now.program.now (order_in c.args.setting.now.orders.now) c.args.setting.now.depth) c.args.site.now.step.now c.args.site.now.called c.args.site.now.arguments.now rs m go o) e) there h))
 
-pub call-returns-else-arguments-code-clause-tracks : goal.call-returns-else-arguments-code-clause-tracks
-call-returns-else-arguments-code-clause-tracks g t c = λ v go e h.
+pub call-returns-else-site-code-clause-tracks : goal.call-returns-else-site-code-clause-tracks
+call-returns-else-site-code-clause-tracks g t c = λ v go e h.
     let there : slice_get c.args.setting.now.program.now.functions c.args.site.now.called ≡ Some c.in-Some.code.now = c.in-Some.ensures.some in
     let count : nat_eq (length c.args.site.now.arguments.now) c.in-Some.code.now.parameters ≡ false = search rules in
     tracks_as c.args.setting.now.program.now c.args.setting.now.function (seen c.args.t.now v c.args.x) (memory_at c.args.t.now c.args.memory.now v) (λ rs m. on_call (walk c.args.setting.now.program.now (order_in c.args.setting.now.orders.now) c.args.setting.now.depth) c.args.site.now.step.now c.args.site.now.called c.args.site.now.arguments.now rs m go (slice_get c.args.setting.now.program.now.functions c.args.site.now.called)) go e
@@ -137,8 +137,8 @@ call_code-returns-clause-frame g t c = (followed c.args.t.now c.run_function.new
 pub call_code-returns-clause-over : goal.call_code-returns-clause-over
 call_code-returns-clause-over g t c = over_kept c.run_function.new.t c.resume.new.t c.in_ok-made.ensures.frame c.run_function.new.memory c.in_ok-after.ensures.over
 
-pub run_function-returns-then-depth-eq0-clause-on : goal.run_function-returns-then-depth-eq0-clause-on
-run_function-returns-then-depth-eq0-clause-on g t c = λ v rs m h. no_depth c.args.setting.now.program.now (order_in c.args.setting.now.orders.now) c.args.setting.now.depth c.args.setting.now.function rs m (seen c.args.t.now v c.args.x) (memory_at c.args.t.now c.args.memory.now v) (search rules)
+pub run_function-returns-then-setting-eq0-clause-on : goal.run_function-returns-then-setting-eq0-clause-on
+run_function-returns-then-setting-eq0-clause-on g t c = λ v rs m h. no_depth c.args.setting.now.program.now (order_in c.args.setting.now.orders.now) c.args.setting.now.depth c.args.setting.now.function rs m (seen c.args.t.now v c.args.x) (memory_at c.args.t.now c.args.memory.now v) (search rules)
 
 pub run_function-returns-in_ok-made-clause-off : goal.run_function-returns-in_ok-made-clause-off
 run_function-returns-in_ok-made-clause-off g t c = λ v k m h. c.in_ok-made.ensures.rests v (Off k m) h
