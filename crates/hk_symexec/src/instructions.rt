@@ -65,7 +65,7 @@ fn store_slot<R: InitialReads>(
     memory: &SymMemory<R>,
     x: Exec,
     line: u32,
-    written: SlotStore,
+    written: &SlotStore,
 ) -> Result<Exec, AllocError>
     requires layout { IsMemoryOf layout.now.objects memory.now }
     requires whole { AreWhole layout.now.objects }
@@ -74,7 +74,7 @@ fn store_slot<R: InitialReads>(
     ensures frame { Extends t.old t.new }
     ensures within { IfOk result (λ y. IsExec t.new y) }
     ensures tracks { IfOk result (λ y. (P : Program) (f : ℕ) (v : Reading) (go : Behind) (e : Ending) →
-        Tracks P f (seen t.old v x) (memory_at t.old memory.now v) (λ rs m. on_slot line written.to.slot rs m go (machine.slot_stored written.to.align (value_of m rs written.value.now) (held_at rs written.to.slot))) e →
+        Tracks P f (seen t.old v x) (memory_at t.old memory.now v) (λ rs m. on_slot line written.now.to.slot rs m go (machine.slot_stored written.now.to.align (value_of m rs written.now.value.now) (held_at rs written.now.to.slot))) e →
         Tracks P f (seen t.new v y) (memory_at t.new memory.now v) go e) }
 {
     let given = stored_slot(t, layout, memory, &x.file, written.value, written.to)?;
@@ -151,7 +151,7 @@ pub(crate) fn plain<R: InitialReads>(
                 align: *align,
                 address,
             };
-            let made = store(t, setting, memory, x, value, access)?;
+            let made = store(t, setting, memory, x, value, &access)?;
             Ok(made)
         }
         Act::StoreSlot { align, value, slot } => {
@@ -160,7 +160,7 @@ pub(crate) fn plain<R: InitialReads>(
                 align: *align,
             };
             let written = SlotStore { value, to };
-            let made = store_slot(t, setting.layout, memory, x, step.line, written)?;
+            let made = store_slot(t, setting.layout, memory, x, step.line, &written)?;
             Ok(made)
         }
         Act::Goto { block: to } => {

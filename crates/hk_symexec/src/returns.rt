@@ -174,7 +174,7 @@ fn store_value<R: InitialReads>(
     memory: &mut SymMemory<R>,
     x: Exec,
     value: SymValue,
-    access: OperandAccess,
+    access: &OperandAccess,
 ) -> Result<Exec, AllocError>
     requires fits { FitsMemory setting.now.layout.now.objects setting.now.program.now.objects memory.old }
     requires over { IsOver t.old memory.old }
@@ -185,7 +185,7 @@ fn store_value<R: InitialReads>(
     ensures origins { memory.new.origins ≡ memory.old.origins }
     ensures over { IfOk result (λ y. IsOver t.new memory.new) }
     ensures tracks { IfOk result (λ y. (P : Program) (f : ℕ) (v : Reading) (line : ℕ) (go : Behind) (e : Ending) →
-        Tracks P f (seen t.old v x) (memory_at t.old memory.old v) (λ rs m. on_store line access.bytes rs m go (machine.stored m setting.now.program.now.objects access.bytes access.align (Some (meaning t.old value v)) (value_of m rs access.address.now))) e →
+        Tracks P f (seen t.old v x) (memory_at t.old memory.old v) (λ rs m. on_store line access.now.bytes rs m go (machine.stored m setting.now.program.now.objects access.now.bytes access.now.align (Some (meaning t.old value v)) (value_of m rs access.now.address.now))) e →
         Tracks P f (seen t.new v y) (memory_at t.new memory.new v) go e) }
 {
     let read = operand(t, setting.layout, memory, &x.file, access.address)?;
@@ -211,7 +211,7 @@ pub(crate) fn store<R: InitialReads>(
     memory: &mut SymMemory<R>,
     x: Exec,
     value: &Input,
-    access: OperandAccess,
+    access: &OperandAccess,
 ) -> Result<Exec, AllocError>
     requires fits { FitsMemory setting.now.layout.now.objects setting.now.program.now.objects memory.old }
     requires over { IsOver t.old memory.old }
@@ -221,7 +221,7 @@ pub(crate) fn store<R: InitialReads>(
     ensures origins { memory.new.origins ≡ memory.old.origins }
     ensures over { IfOk result (λ y. IsOver t.new memory.new) }
     ensures tracks { IfOk result (λ y. (P : Program) (f : ℕ) (v : Reading) (line : ℕ) (go : Behind) (e : Ending) →
-        Tracks P f (seen t.old v x) (memory_at t.old memory.old v) (λ rs m. on_store line access.bytes rs m go (machine.stored m setting.now.program.now.objects access.bytes access.align (value_of m rs value.now) (value_of m rs access.address.now))) e →
+        Tracks P f (seen t.old v x) (memory_at t.old memory.old v) (λ rs m. on_store line access.now.bytes rs m go (machine.stored m setting.now.program.now.objects access.now.bytes access.now.align (value_of m rs value.now) (value_of m rs access.now.address.now))) e →
         Tracks P f (seen t.new v y) (memory_at t.new memory.new v) go e) }
 {
     let read = operand(t, setting.layout, memory, &x.file, value)?;
