@@ -15,16 +15,25 @@ ghost use Rattle.hk_symexec.specs.Seen.{IsExec, seen};
 ghost use Rattle.hk_symexec.specs.Tracks.{Ending, Tracks, is_call, is_computed};
 
 use crate::exec::Exec;
-use crate::leads::{branch, goto, switch};
-use crate::returns::{give_back, store};
+use crate::jumps::Edge;
+use crate::leads::{BranchEdges, SwitchEdges, branch, goto, switch};
+use crate::returns::{OperandAccess, give_back, store};
+use crate::setting::Setting;
 use crate::settle::{settle, settle_passes, settle_slot};
 use crate::truths;
 use hk_symmem::{InitialReads, SymMemory};
-use hk_symstep::{computed, stored_slot};
+use hk_symstep::{SlotAccess, computed, stored_slot};
 use hk_term::Terms;
 use ir_code::{Act, Input, Program, Step};
 use ir_layout::Layout;
 use std::alloc::{AllocError, Global};
+
+/// A store into a slot: the operand of what is stored, and where to.
+#[derive(Clone, Copy)]
+struct SlotStore<'a> {
+    value: &'a Input,
+    to: SlotAccess,
+}
 
 /// Where the run is here it is stuck.
 #[tactic(auto, using(crate::proofs::Kept::over_kept, crate::proofs::Kept::exec_kept))]
@@ -56,9 +65,7 @@ fn store_slot<R: InitialReads>(
     memory: &SymMemory<R>,
     x: Exec,
     line: u32,
-    align: u64,
-    value: &Input,
-    slot: u32,
+    written: &SlotStore,
 ) -> Result<Exec, AllocError>
     requires layout { IsMemoryOf layout.now.objects memory.now }
     requires whole { AreWhole layout.now.objects }
@@ -67,11 +74,11 @@ fn store_slot<R: InitialReads>(
     ensures frame { Extends t.old t.new }
     ensures within { IfOk result (λ y. IsExec t.new y) }
     ensures tracks { IfOk result (λ y. (P : Program) (f : ℕ) (v : Reading) (go : Behind) (e : Ending) →
-        Tracks P f (seen t.old v x) (memory_at t.old memory.now v) (λ rs m. on_slot line slot rs m go (machine.slot_stored align (value_of m rs value.now) (held_at rs slot))) e →
+        Tracks P f (seen t.old v x) (memory_at t.old memory.now v) (λ rs m. on_slot line written.now.to.slot rs m go (machine.slot_stored written.now.to.align (value_of m rs written.now.value.now) (held_at rs written.now.to.slot))) e →
         Tracks P f (seen t.new v y) (memory_at t.new memory.now v) go e) }
 {
-    let given = stored_slot(t, layout, memory, &x.file, align, value, slot)?;
-    let made = settle_slot(t, x, line, slot, given)?;
+    let given = stored_slot(t, layout, memory, &x.file, written.value, written.to)?;
+    let made = settle_slot(t, x, line, written.to.slot, given)?;
     Ok(made)
 }
 
@@ -114,16 +121,14 @@ fn compute<R: InitialReads>(
 pub(crate) fn plain<R: InitialReads>(
     alloc: Global,
     t: &mut Terms,
-    layout: &Layout,
-    program: &Program,
+    setting: &Setting,
     memory: &mut SymMemory<R>,
     x: Exec,
-    function: u32,
     block: u32,
     step: &Step,
 ) -> Result<Exec, AllocError>
     requires plain { is_call step.now.act ≡ false }
-    requires fits { FitsMemory layout.now.objects program.now.objects memory.old }
+    requires fits { FitsMemory setting.now.layout.now.objects setting.now.program.now.objects memory.old }
     requires over { IsOver t.old memory.old }
     requires state { IsExec t.old x }
     ensures frame { Extends t.old t.new }
@@ -131,8 +136,8 @@ pub(crate) fn plain<R: InitialReads>(
     ensures within { IfOk result (λ y. IsExec t.new y) }
     ensures over { IfOk result (λ y. IsOver t.new memory.new) }
     ensures tracks { IfOk result (λ y. (W : Callee) (v : Reading) (go : Behind) (e : Ending) →
-        Tracks program.now function (seen t.old v x) (memory_at t.old memory.old v) (λ rs m. walk_act W program.now function block step.now rs m go step.now.act) e →
-        Tracks program.now function (seen t.new v y) (memory_at t.new memory.new v) go e) }
+        Tracks setting.now.program.now setting.now.function (seen t.old v x) (memory_at t.old memory.old v) (λ rs m. walk_act W setting.now.program.now setting.now.function block step.now rs m go step.now.act) e →
+        Tracks setting.now.program.now setting.now.function (seen t.new v y) (memory_at t.new memory.new v) go e) }
 {
     match &step.act {
         Act::Store {
@@ -141,31 +146,38 @@ pub(crate) fn plain<R: InitialReads>(
             value,
             address,
         } => {
-            let made = store(
-                t,
-                layout,
-                &program.objects,
-                memory,
-                x,
-                *bytes,
-                *align,
-                value,
+            let access = OperandAccess {
+                bytes: *bytes,
+                align: *align,
                 address,
-            )?;
+            };
+            let made = store(t, setting, memory, x, value, &access)?;
             Ok(made)
         }
         Act::StoreSlot { align, value, slot } => {
-            let made = store_slot(t, layout, memory, x, step.line, *align, value, *slot)?;
+            let to = SlotAccess {
+                slot: *slot,
+                align: *align,
+            };
+            let written = SlotStore { value, to };
+            let made = store_slot(t, setting.layout, memory, x, step.line, &written)?;
             Ok(made)
         }
         Act::Goto { block: to } => {
-            let made = goto(alloc, t, layout, program, memory, x, function, block, *to)?;
+            let edge = Edge {
+                from: block,
+                to: *to,
+            };
+            let made = goto(alloc, t, setting, memory, x, edge)?;
             Ok(made)
         }
         Act::Branch { condition, yes, no } => {
-            let made = branch(
-                alloc, t, layout, program, memory, x, function, block, condition, *yes, *no,
-            )?;
+            let edges = BranchEdges {
+                from: block,
+                yes: *yes,
+                no: *no,
+            };
+            let made = branch(alloc, t, setting, memory, x, condition, edges)?;
             Ok(made)
         }
         Act::Switch {
@@ -174,23 +186,16 @@ pub(crate) fn plain<R: InitialReads>(
             default,
             ..
         } => {
-            let made = switch(
-                alloc,
-                t,
-                layout,
-                program,
-                memory,
-                x,
-                function,
-                block,
-                on,
-                cases.as_slice(),
-                *default,
-            )?;
+            let edges = SwitchEdges {
+                from: block,
+                cases: cases.as_slice(),
+                default: *default,
+            };
+            let made = switch(alloc, t, setting, memory, x, on, &edges)?;
             Ok(made)
         }
         Act::Return { value } => {
-            let made = give_back(t, layout, memory, x, value)?;
+            let made = give_back(t, setting.layout, memory, x, value)?;
             Ok(made)
         }
         Act::Unreachable => {
@@ -198,7 +203,7 @@ pub(crate) fn plain<R: InitialReads>(
             Ok(made)
         }
         _ => {
-            let made = compute(alloc, t, layout, program, memory, x, step)?;
+            let made = compute(alloc, t, setting.layout, setting.program, memory, x, step)?;
             Ok(made)
         }
     }

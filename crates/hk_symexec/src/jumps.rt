@@ -21,12 +21,19 @@ ghost use Rattle.hk_symexec.specs.Tracks.{Ending, Tracks};
 use crate::entries::Entries;
 use crate::exec::Exec;
 use crate::phis::{Phi, set_all, staged};
+use crate::setting::Setting;
 use crate::truths;
 use hk_symmem::{InitialReads, SymMemory};
 use hk_term::{TermId, Terms};
 use ir_code::{Program, Step};
-use ir_layout::Layout;
 use std::alloc::{AllocError, Global};
+
+/// An edge between two blocks of a function, by their places.
+#[derive(Clone, Copy)]
+pub(crate) struct Edge {
+    pub(crate) from: u32,
+    pub(crate) to: u32,
+}
 
 /// The instructions of a block of a function.
 pub(crate) fn steps_of(program: &Program, function: u32, block: u32) -> &[Step]
@@ -119,36 +126,33 @@ fn leave(
     })
 }
 
-/// Where a condition holds the run leaves for a block.
+/// Where a condition holds the run leaves by an edge.
 pub(crate) fn jump<R: InitialReads>(
     alloc: Global,
     t: &mut Terms,
-    layout: &Layout,
-    program: &Program,
+    setting: &Setting,
     memory: &SymMemory<R>,
     x: Exec,
-    function: u32,
-    from: u32,
-    to: u32,
+    edge: Edge,
     condition: TermId,
 ) -> Result<Exec, AllocError>
-    requires layout { IsMemoryOf layout.now.objects memory.now }
-    requires whole { AreWhole layout.now.objects }
+    requires layout { IsMemoryOf setting.now.layout.now.objects memory.now }
+    requires whole { AreWhole setting.now.layout.now.objects }
     requires over { IsOver t.old memory.now }
     requires state { IsExec t.old x }
     requires condition { IsTruth t.old condition }
     ensures frame { Extends t.old t.new }
     ensures within { IfOk result (λ y. IsExec t.new y) }
     ensures tracks { IfOk result (λ y. (v : Reading) (go : Behind) (e : Ending) →
-        Tracks program.now function (seen t.old v x) (memory_at t.old memory.now v) (λ rs m. if is_true t.old condition v then on_jump program.now function from to rs m else go rs m) e →
-        Tracks program.now function (seen t.new v y) (memory_at t.new memory.now v) go e) }
+        Tracks setting.now.program.now setting.now.function (seen t.old v x) (memory_at t.old memory.now v) (λ rs m. if is_true t.old condition v then on_jump setting.now.program.now setting.now.function edge.from edge.to rs m else go rs m) e →
+        Tracks setting.now.program.now setting.now.function (seen t.new v y) (memory_at t.new memory.now v) go e) }
 {
-    let steps = steps_of(program, function, to);
-    let read = staged(alloc, t, layout, memory, &x.file, from, steps)?;
+    let steps = steps_of(setting.program, setting.function, edge.to);
+    let read = staged(alloc, t, setting.layout, memory, &x.file, edge.from, steps)?;
     match read {
         None => Ok(x),
         Some(phis) => {
-            let made = leave(t, x, to, condition, phis.as_slice())?;
+            let made = leave(t, x, edge.to, condition, phis.as_slice())?;
             Ok(made)
         }
     }

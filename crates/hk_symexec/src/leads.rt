@@ -13,44 +13,55 @@ ghost use Rattle.hk_symexec.specs.Seen.{IsExec, seen};
 ghost use Rattle.hk_symexec.specs.Tracks.{Ending, Tracks};
 
 use crate::exec::Exec;
-use crate::jumps::jump;
+use crate::jumps::{Edge, jump};
 use crate::marks::stick;
+use crate::setting::Setting;
 use crate::truths;
 use hk_symmem::{InitialReads, SymMemory};
 use hk_symstep::operand;
 use hk_symvalue::SymValue;
 use hk_term::{TermId, Terms};
-use ir_code::{Case, Input, Program};
-use ir_layout::Layout;
+use ir_code::{Case, Input};
 use std::alloc::{AllocError, Global};
 
-/// The run leaves for a block.
+/// The edges of a branch: from its block to one where the condition holds, and to one where it does not.
+#[derive(Clone, Copy)]
+pub(crate) struct BranchEdges {
+    pub(crate) from: u32,
+    pub(crate) yes: u32,
+    pub(crate) no: u32,
+}
+
+/// The edges of a switch: from its block to one for each case, and to one where no case is the number.
+#[derive(Clone, Copy)]
+pub(crate) struct SwitchEdges<'a> {
+    pub(crate) from: u32,
+    pub(crate) cases: &'a [Case],
+    pub(crate) default: u32,
+}
+
+/// The run leaves by an edge.
 #[tactic(auto, using(crate::proofs::Kept::over_kept, crate::proofs::Kept::exec_kept))]
 pub(crate) fn goto<R: InitialReads>(
     alloc: Global,
     t: &mut Terms,
-    layout: &Layout,
-    program: &Program,
+    setting: &Setting,
     memory: &SymMemory<R>,
     x: Exec,
-    function: u32,
-    from: u32,
-    to: u32,
+    edge: Edge,
 ) -> Result<Exec, AllocError>
-    requires layout { IsMemoryOf layout.now.objects memory.now }
-    requires whole { AreWhole layout.now.objects }
+    requires layout { IsMemoryOf setting.now.layout.now.objects memory.now }
+    requires whole { AreWhole setting.now.layout.now.objects }
     requires over { IsOver t.old memory.now }
     requires state { IsExec t.old x }
     ensures frame { Extends t.old t.new }
     ensures within { IfOk result (λ y. IsExec t.new y) }
     ensures tracks { IfOk result (λ y. (v : Reading) (go : Behind) (e : Ending) →
-        Tracks program.now function (seen t.old v x) (memory_at t.old memory.now v) (λ rs m. on_jump program.now function from to rs m) e →
-        Tracks program.now function (seen t.new v y) (memory_at t.new memory.now v) go e) }
+        Tracks setting.now.program.now setting.now.function (seen t.old v x) (memory_at t.old memory.now v) (λ rs m. on_jump setting.now.program.now setting.now.function edge.from edge.to rs m) e →
+        Tracks setting.now.program.now setting.now.function (seen t.new v y) (memory_at t.new memory.now v) go e) }
 {
     let always = truths::constant(t, true)?;
-    let made = jump(
-        alloc, t, layout, program, memory, x, function, from, to, always,
-    )?;
+    let made = jump(alloc, t, setting, memory, x, edge, always)?;
     Ok(made)
 }
 
@@ -59,35 +70,29 @@ pub(crate) fn goto<R: InitialReads>(
 fn branch_on<R: InitialReads>(
     alloc: Global,
     t: &mut Terms,
-    layout: &Layout,
-    program: &Program,
+    setting: &Setting,
     memory: &SymMemory<R>,
     x: Exec,
-    function: u32,
-    from: u32,
     condition: SymValue,
-    yes: u32,
-    no: u32,
+    edges: BranchEdges,
 ) -> Result<Exec, AllocError>
-    requires layout { IsMemoryOf layout.now.objects memory.now }
-    requires whole { AreWhole layout.now.objects }
+    requires layout { IsMemoryOf setting.now.layout.now.objects memory.now }
+    requires whole { AreWhole setting.now.layout.now.objects }
     requires over { IsOver t.old memory.now }
     requires state { IsExec t.old x }
     requires condition { IsSym t.old condition }
     ensures frame { Extends t.old t.new }
     ensures within { IfOk result (λ y. IsExec t.new y) }
     ensures tracks { IfOk result (λ y. (v : Reading) (line : ℕ) (go : Behind) (e : Ending) →
-        Tracks program.now function (seen t.old v x) (memory_at t.old memory.now v) (λ rs m. on_target program.now function from line rs m (machine.branch_to (Some (meaning t.old condition v)) yes no)) e →
-        Tracks program.now function (seen t.new v y) (memory_at t.new memory.now v) go e) }
+        Tracks setting.now.program.now setting.now.function (seen t.old v x) (memory_at t.old memory.now v) (λ rs m. on_target setting.now.program.now setting.now.function edges.from line rs m (machine.branch_to (Some (meaning t.old condition v)) edges.yes edges.no)) e →
+        Tracks setting.now.program.now setting.now.function (seen t.new v y) (memory_at t.new memory.now v) go e) }
 {
     let known = stick(t, x, condition.poison)?;
     let zero = truths::equals(t, condition.bits, 0)?;
-    let other = jump(
-        alloc, t, layout, program, memory, known, function, from, no, zero,
-    )?;
-    let made = goto(
-        alloc, t, layout, program, memory, other, function, from, yes,
-    )?;
+    let BranchEdges { from, yes, no } = edges;
+    let away = Edge { from, to: no };
+    let other = jump(alloc, t, setting, memory, known, away, zero)?;
+    let made = goto(alloc, t, setting, memory, other, Edge { from, to: yes })?;
     Ok(made)
 }
 
@@ -96,33 +101,27 @@ fn branch_on<R: InitialReads>(
 pub(crate) fn branch<R: InitialReads>(
     alloc: Global,
     t: &mut Terms,
-    layout: &Layout,
-    program: &Program,
+    setting: &Setting,
     memory: &SymMemory<R>,
     x: Exec,
-    function: u32,
-    from: u32,
     condition: &Input,
-    yes: u32,
-    no: u32,
+    edges: BranchEdges,
 ) -> Result<Exec, AllocError>
-    requires layout { IsMemoryOf layout.now.objects memory.now }
-    requires whole { AreWhole layout.now.objects }
+    requires layout { IsMemoryOf setting.now.layout.now.objects memory.now }
+    requires whole { AreWhole setting.now.layout.now.objects }
     requires over { IsOver t.old memory.now }
     requires state { IsExec t.old x }
     ensures frame { Extends t.old t.new }
     ensures within { IfOk result (λ y. IsExec t.new y) }
     ensures tracks { IfOk result (λ y. (v : Reading) (line : ℕ) (go : Behind) (e : Ending) →
-        Tracks program.now function (seen t.old v x) (memory_at t.old memory.now v) (λ rs m. on_target program.now function from line rs m (machine.branch_to (value_of m rs condition.now) yes no)) e →
-        Tracks program.now function (seen t.new v y) (memory_at t.new memory.now v) go e) }
+        Tracks setting.now.program.now setting.now.function (seen t.old v x) (memory_at t.old memory.now v) (λ rs m. on_target setting.now.program.now setting.now.function edges.from line rs m (machine.branch_to (value_of m rs condition.now) edges.yes edges.no)) e →
+        Tracks setting.now.program.now setting.now.function (seen t.new v y) (memory_at t.new memory.now v) go e) }
 {
-    let read = operand(t, layout, memory, &x.file, condition)?;
+    let read = operand(t, setting.layout, memory, &x.file, condition)?;
     match read {
         None => Ok(x),
         Some(on) => {
-            let made = branch_on(
-                alloc, t, layout, program, memory, x, function, from, on, yes, no,
-            )?;
+            let made = branch_on(alloc, t, setting, memory, x, on, edges)?;
             Ok(made)
         }
     }
@@ -133,37 +132,32 @@ pub(crate) fn branch<R: InitialReads>(
 fn cases_on<R: InitialReads>(
     alloc: Global,
     t: &mut Terms,
-    layout: &Layout,
-    program: &Program,
+    setting: &Setting,
     memory: &SymMemory<R>,
     x: Exec,
-    function: u32,
-    from: u32,
     bits: TermId,
-    cases: &[Case],
-    default: u32,
+    edges: &SwitchEdges,
 ) -> Result<Exec, AllocError>
-    requires layout { IsMemoryOf layout.now.objects memory.now }
-    requires whole { AreWhole layout.now.objects }
+    requires layout { IsMemoryOf setting.now.layout.now.objects memory.now }
+    requires whole { AreWhole setting.now.layout.now.objects }
     requires over { IsOver t.old memory.now }
     requires state { IsExec t.old x }
     requires bits { bits < length t.old }
     ensures frame { Extends t.old t.new }
     ensures within { IfOk result (λ y. IsExec t.new y) }
     ensures tracks { IfOk result (λ y. (v : Reading) (go : Behind) (e : Ending) →
-        Tracks program.now function (seen t.old v x) (memory_at t.old memory.now v) (λ rs m. on_jump program.now function from (machine.case_of (value t.old bits v) cases.now default) rs m) e →
-        Tracks program.now function (seen t.new v y) (memory_at t.new memory.now v) go e) }
+        Tracks setting.now.program.now setting.now.function (seen t.old v x) (memory_at t.old memory.now v) (λ rs m. on_jump setting.now.program.now setting.now.function edges.now.from (machine.case_of (value t.old bits v) edges.now.cases.now edges.now.default) rs m) e →
+        Tracks setting.now.program.now setting.now.function (seen t.new v y) (memory_at t.new memory.now v) go e) }
 {
     let mut state = x;
-    for case in cases {
+    let from = edges.from;
+    for case in edges.cases {
         let hit = truths::equals(t, bits, case.number)?;
-        state = jump(
-            alloc, t, layout, program, memory, state, function, from, case.block, hit,
-        )?;
+        let to = case.block;
+        state = jump(alloc, t, setting, memory, state, Edge { from, to }, hit)?;
     }
-    let made = goto(
-        alloc, t, layout, program, memory, state, function, from, default,
-    )?;
+    let to = edges.default;
+    let made = goto(alloc, t, setting, memory, state, Edge { from, to })?;
     Ok(made)
 }
 
@@ -172,31 +166,25 @@ fn cases_on<R: InitialReads>(
 fn switch_on<R: InitialReads>(
     alloc: Global,
     t: &mut Terms,
-    layout: &Layout,
-    program: &Program,
+    setting: &Setting,
     memory: &SymMemory<R>,
     x: Exec,
-    function: u32,
-    from: u32,
     on: SymValue,
-    cases: &[Case],
-    default: u32,
+    edges: &SwitchEdges,
 ) -> Result<Exec, AllocError>
-    requires layout { IsMemoryOf layout.now.objects memory.now }
-    requires whole { AreWhole layout.now.objects }
+    requires layout { IsMemoryOf setting.now.layout.now.objects memory.now }
+    requires whole { AreWhole setting.now.layout.now.objects }
     requires over { IsOver t.old memory.now }
     requires state { IsExec t.old x }
     requires on { IsSym t.old on }
     ensures frame { Extends t.old t.new }
     ensures within { IfOk result (λ y. IsExec t.new y) }
     ensures tracks { IfOk result (λ y. (v : Reading) (line : ℕ) (go : Behind) (e : Ending) →
-        Tracks program.now function (seen t.old v x) (memory_at t.old memory.now v) (λ rs m. on_target program.now function from line rs m (machine.switch_to (Some (meaning t.old on v)) cases.now default)) e →
-        Tracks program.now function (seen t.new v y) (memory_at t.new memory.now v) go e) }
+        Tracks setting.now.program.now setting.now.function (seen t.old v x) (memory_at t.old memory.now v) (λ rs m. on_target setting.now.program.now setting.now.function edges.now.from line rs m (machine.switch_to (Some (meaning t.old on v)) edges.now.cases.now edges.now.default)) e →
+        Tracks setting.now.program.now setting.now.function (seen t.new v y) (memory_at t.new memory.now v) go e) }
 {
     let known = stick(t, x, on.poison)?;
-    let made = cases_on(
-        alloc, t, layout, program, memory, known, function, from, on.bits, cases, default,
-    )?;
+    let made = cases_on(alloc, t, setting, memory, known, on.bits, edges)?;
     Ok(made)
 }
 
@@ -205,33 +193,27 @@ fn switch_on<R: InitialReads>(
 pub(crate) fn switch<R: InitialReads>(
     alloc: Global,
     t: &mut Terms,
-    layout: &Layout,
-    program: &Program,
+    setting: &Setting,
     memory: &SymMemory<R>,
     x: Exec,
-    function: u32,
-    from: u32,
     on: &Input,
-    cases: &[Case],
-    default: u32,
+    edges: &SwitchEdges,
 ) -> Result<Exec, AllocError>
-    requires layout { IsMemoryOf layout.now.objects memory.now }
-    requires whole { AreWhole layout.now.objects }
+    requires layout { IsMemoryOf setting.now.layout.now.objects memory.now }
+    requires whole { AreWhole setting.now.layout.now.objects }
     requires over { IsOver t.old memory.now }
     requires state { IsExec t.old x }
     ensures frame { Extends t.old t.new }
     ensures within { IfOk result (λ y. IsExec t.new y) }
     ensures tracks { IfOk result (λ y. (v : Reading) (line : ℕ) (go : Behind) (e : Ending) →
-        Tracks program.now function (seen t.old v x) (memory_at t.old memory.now v) (λ rs m. on_target program.now function from line rs m (machine.switch_to (value_of m rs on.now) cases.now default)) e →
-        Tracks program.now function (seen t.new v y) (memory_at t.new memory.now v) go e) }
+        Tracks setting.now.program.now setting.now.function (seen t.old v x) (memory_at t.old memory.now v) (λ rs m. on_target setting.now.program.now setting.now.function edges.now.from line rs m (machine.switch_to (value_of m rs on.now) edges.now.cases.now edges.now.default)) e →
+        Tracks setting.now.program.now setting.now.function (seen t.new v y) (memory_at t.new memory.now v) go e) }
 {
-    let read = operand(t, layout, memory, &x.file, on)?;
+    let read = operand(t, setting.layout, memory, &x.file, on)?;
     match read {
         None => Ok(x),
         Some(given) => {
-            let made = switch_on(
-                alloc, t, layout, program, memory, x, function, from, given, cases, default,
-            )?;
+            let made = switch_on(alloc, t, setting, memory, x, given, edges)?;
             Ok(made)
         }
     }

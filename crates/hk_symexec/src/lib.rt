@@ -17,6 +17,7 @@ mod orders;
 mod phis;
 mod returns;
 mod run;
+mod setting;
 mod settle;
 mod starts;
 mod truths;

@@ -95,8 +95,7 @@ fn head<R: InitialReads>(
     memory: &SymMemory<R>,
     file: &SymFile,
     from: u32,
-    register: Option<u32>,
-    act: &Act,
+    step: &Step,
 ) -> Result<SymHead, AllocError>
     requires layout { IsMemoryOf layout.now.objects memory.now }
     requires whole { AreWhole layout.now.objects }
@@ -104,12 +103,12 @@ fn head<R: InitialReads>(
     requires file { IsFile t.old file.now }
     ensures frame { Extends t.old t.new }
     ensures within { IfOk result (λ r. IsHead t.new r) }
-    ensures answers { IfOk result (λ r. (v : Reading) (rs : Registers) → Covers t.old v file.now rs → AnswersHead t.new v r (machine.head_of (memory_at t.old memory.now v) rs from register act.now)) }
+    ensures answers { IfOk result (λ r. (v : Reading) (rs : Registers) → Covers t.old v file.now rs → AnswersHead t.new v r (machine.head_of (memory_at t.old memory.now v) rs from step.now.result step.now.act)) }
 {
-    match act {
+    match &step.act {
         Act::Phi { arms } => {
             let value = arm_value(t, layout, memory, file, from, arms.as_slice())?;
-            Ok(phi_of(register, value))
+            Ok(phi_of(step.result, value))
         }
         _ => Ok(SymHead::Ends),
     }
@@ -136,7 +135,7 @@ pub(crate) fn staged<R: InitialReads>(
 {
     let mut found: Vec<Phi> = Vec::new(alloc);
     for step in steps {
-        match head(t, layout, memory, file, from, step.result, &step.act)? {
+        match head(t, layout, memory, file, from, step)? {
             SymHead::Ends => return Ok(Some(Seq::from_vec(found))),
             SymHead::Lost => return Ok(None),
             SymHead::Reads(phi) => found.push(phi)?,

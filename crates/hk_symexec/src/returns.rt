@@ -15,14 +15,23 @@ ghost use Rattle.hk_symexec.specs.Tracks.{Ending, Tracks};
 
 use crate::exec::Exec;
 use crate::marks::{come_back, come_back_with, stick};
-use hk_seq::Seq;
+use crate::setting::Setting;
+use hk_symaccess::{Access, Store};
 use hk_symmem::{InitialReads, SymMemory};
 use hk_symstep::operand;
 use hk_symvalue::SymValue;
 use hk_term::Terms;
-use ir_code::{Input, Object};
+use ir_code::Input;
 use ir_layout::Layout;
 use std::alloc::AllocError;
+
+/// So many bytes of memory at an alignment, at the address that an operand gives.
+#[derive(Clone, Copy)]
+pub(crate) struct OperandAccess<'a> {
+    pub(crate) bytes: u32,
+    pub(crate) align: u64,
+    pub(crate) address: &'a Input,
+}
 
 // The run comes back with a value, or is stuck where that is poison.
 fn return_on(t: &mut Terms, x: Exec, value: SymValue) -> Result<Exec, AllocError>
@@ -122,31 +131,36 @@ pub(crate) fn give_back<R: InitialReads>(
 // A store of a value at an address.
 fn store_at<R: InitialReads>(
     t: &mut Terms,
-    layout: &Layout,
-    objects: &Seq<Object>,
+    setting: &Setting,
     memory: &mut SymMemory<R>,
     x: Exec,
-    bytes: u32,
-    align: u64,
     value: SymValue,
-    address: SymValue,
+    access: Access,
 ) -> Result<Exec, AllocError>
-    requires fits { FitsMemory layout.now.objects objects.now memory.old }
+    requires fits { FitsMemory setting.now.layout.now.objects setting.now.program.now.objects memory.old }
     requires over { IsOver t.old memory.old }
     requires state { IsExec t.old x }
     requires value { IsSym t.old value }
-    requires address { IsSym t.old address }
+    requires address { IsSym t.old access.address }
     ensures frame { Extends t.old t.new }
     ensures within { IfOk result (λ y. IsExec t.new y) }
     ensures origins { memory.new.origins ≡ memory.old.origins }
     ensures over { IfOk result (λ y. IsOver t.new memory.new) }
     ensures tracks { IfOk result (λ y. (P : Program) (f : ℕ) (v : Reading) (line : ℕ) (go : Behind) (e : Ending) →
-        Tracks P f (seen t.old v x) (memory_at t.old memory.old v) (λ rs m. on_store line bytes rs m go (machine.stored m objects.now bytes align (Some (meaning t.old value v)) (Some (meaning t.old address v)))) e →
+        Tracks P f (seen t.old v x) (memory_at t.old memory.old v) (λ rs m. on_store line access.bytes rs m go (machine.stored m setting.now.program.now.objects access.bytes access.align (Some (meaning t.old value v)) (Some (meaning t.old access.address v)))) e →
         Tracks P f (seen t.new v y) (memory_at t.new memory.new v) go e) }
 {
     let guard = x.guard;
     let stuck = hk_symaccess::store(
-        t, layout, objects, memory, guard, bytes, align, value, address,
+        t,
+        setting.layout,
+        &setting.program.objects,
+        memory,
+        Store {
+            guard,
+            value,
+            access,
+        },
     )?;
     let made = stick(t, x, stuck)?;
     Ok(made)
@@ -156,16 +170,13 @@ fn store_at<R: InitialReads>(
 #[tactic(auto, using(crate::proofs::Kept::over_kept, crate::proofs::Kept::exec_kept, crate::proofs::Kept::sym_kept))]
 fn store_value<R: InitialReads>(
     t: &mut Terms,
-    layout: &Layout,
-    objects: &Seq<Object>,
+    setting: &Setting,
     memory: &mut SymMemory<R>,
     x: Exec,
-    bytes: u32,
-    align: u64,
     value: SymValue,
-    address: &Input,
+    access: &OperandAccess,
 ) -> Result<Exec, AllocError>
-    requires fits { FitsMemory layout.now.objects objects.now memory.old }
+    requires fits { FitsMemory setting.now.layout.now.objects setting.now.program.now.objects memory.old }
     requires over { IsOver t.old memory.old }
     requires state { IsExec t.old x }
     requires value { IsSym t.old value }
@@ -174,14 +185,19 @@ fn store_value<R: InitialReads>(
     ensures origins { memory.new.origins ≡ memory.old.origins }
     ensures over { IfOk result (λ y. IsOver t.new memory.new) }
     ensures tracks { IfOk result (λ y. (P : Program) (f : ℕ) (v : Reading) (line : ℕ) (go : Behind) (e : Ending) →
-        Tracks P f (seen t.old v x) (memory_at t.old memory.old v) (λ rs m. on_store line bytes rs m go (machine.stored m objects.now bytes align (Some (meaning t.old value v)) (value_of m rs address.now))) e →
+        Tracks P f (seen t.old v x) (memory_at t.old memory.old v) (λ rs m. on_store line access.now.bytes rs m go (machine.stored m setting.now.program.now.objects access.now.bytes access.now.align (Some (meaning t.old value v)) (value_of m rs access.now.address.now))) e →
         Tracks P f (seen t.new v y) (memory_at t.new memory.new v) go e) }
 {
-    let read = operand(t, layout, memory, &x.file, address)?;
+    let read = operand(t, setting.layout, memory, &x.file, access.address)?;
     match read {
         None => Ok(x),
         Some(given) => {
-            let made = store_at(t, layout, objects, memory, x, bytes, align, value, given)?;
+            let access = Access {
+                bytes: access.bytes,
+                align: access.align,
+                address: given,
+            };
+            let made = store_at(t, setting, memory, x, value, access)?;
             Ok(made)
         }
     }
@@ -191,16 +207,13 @@ fn store_value<R: InitialReads>(
 #[tactic(auto, using(crate::proofs::Kept::over_kept, crate::proofs::Kept::exec_kept))]
 pub(crate) fn store<R: InitialReads>(
     t: &mut Terms,
-    layout: &Layout,
-    objects: &Seq<Object>,
+    setting: &Setting,
     memory: &mut SymMemory<R>,
     x: Exec,
-    bytes: u32,
-    align: u64,
     value: &Input,
-    address: &Input,
+    access: &OperandAccess,
 ) -> Result<Exec, AllocError>
-    requires fits { FitsMemory layout.now.objects objects.now memory.old }
+    requires fits { FitsMemory setting.now.layout.now.objects setting.now.program.now.objects memory.old }
     requires over { IsOver t.old memory.old }
     requires state { IsExec t.old x }
     ensures frame { Extends t.old t.new }
@@ -208,14 +221,14 @@ pub(crate) fn store<R: InitialReads>(
     ensures origins { memory.new.origins ≡ memory.old.origins }
     ensures over { IfOk result (λ y. IsOver t.new memory.new) }
     ensures tracks { IfOk result (λ y. (P : Program) (f : ℕ) (v : Reading) (line : ℕ) (go : Behind) (e : Ending) →
-        Tracks P f (seen t.old v x) (memory_at t.old memory.old v) (λ rs m. on_store line bytes rs m go (machine.stored m objects.now bytes align (value_of m rs value.now) (value_of m rs address.now))) e →
+        Tracks P f (seen t.old v x) (memory_at t.old memory.old v) (λ rs m. on_store line access.now.bytes rs m go (machine.stored m setting.now.program.now.objects access.now.bytes access.now.align (value_of m rs value.now) (value_of m rs access.now.address.now))) e →
         Tracks P f (seen t.new v y) (memory_at t.new memory.new v) go e) }
 {
-    let read = operand(t, layout, memory, &x.file, value)?;
+    let read = operand(t, setting.layout, memory, &x.file, value)?;
     match read {
         None => Ok(x),
         Some(given) => {
-            let made = store_value(t, layout, objects, memory, x, bytes, align, given, address)?;
+            let made = store_value(t, setting, memory, x, given, access)?;
             Ok(made)
         }
     }

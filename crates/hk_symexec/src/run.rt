@@ -16,14 +16,22 @@ use crate::calls::{begin, first_file, resume};
 use crate::exec::Exec;
 use crate::instructions::plain;
 use crate::jumps::steps_of;
+use crate::setting::Setting;
 use crate::settle::settle_passes;
 use hk_seq::Seq;
 use hk_symmem::{InitialReads, SymMemory};
 use hk_symstep::passed;
 use hk_term::Terms;
 use ir_code::{Act, Code, Input, Program, Step};
-use ir_layout::Layout;
 use std::alloc::{AllocError, Global};
+
+/// An instruction that calls a function, with the function's place and what is passed to it.
+#[derive(Clone, Copy)]
+struct CallSite<'a> {
+    step: &'a Step,
+    called: u32,
+    arguments: &'a [Input],
+}
 
 /// The code of a function.
 fn code_of<'a>(program: &'a Program, function: u32) -> Option<&'a Code>
@@ -49,20 +57,14 @@ fn order_of(orders: &Seq<Seq<u32>>, function: u32) -> &[u32]
 fn call_code<R: InitialReads>(
     alloc: Global,
     t: &mut Terms,
-    layout: &Layout,
-    program: &Program,
-    orders: &Seq<Seq<u32>>,
+    setting: &Setting,
     memory: &mut SymMemory<R>,
     x: Exec,
-    function: u32,
-    step: &Step,
-    called: u32,
-    arguments: &[Input],
+    site: &CallSite,
     code: &Code,
-    depth: u32,
 ) -> Result<Exec, AllocError>
-    requires there { slice_get program.now.functions called ≡ Some code.now }
-    requires fits { FitsMemory layout.now.objects program.now.objects memory.old }
+    requires there { slice_get setting.now.program.now.functions site.now.called ≡ Some code.now }
+    requires fits { FitsMemory setting.now.layout.now.objects setting.now.program.now.objects memory.old }
     requires over { IsOver t.old memory.old }
     requires state { IsExec t.old x }
     ensures frame { Extends t.old t.new }
@@ -70,17 +72,27 @@ fn call_code<R: InitialReads>(
     ensures within { IfOk result (λ y. IsExec t.new y) }
     ensures over { IfOk result (λ y. IsOver t.new memory.new) }
     ensures tracks { IfOk result (λ y. (v : Reading) (go : Behind) (e : Ending) →
-        Tracks program.now function (seen t.old v x) (memory_at t.old memory.old v) (λ rs m. on_passed (walk program.now (order_in orders.now) depth) step.now called rs m go (machine.first_registers code.now (machine.argument_registers m rs arguments.now)) (arguments_pass m rs arguments.now)) e →
-        Tracks program.now function (seen t.new v y) (memory_at t.new memory.new v) go e) }
+        Tracks setting.now.program.now setting.now.function (seen t.old v x) (memory_at t.old memory.old v) (λ rs m. on_passed (walk setting.now.program.now (order_in setting.now.orders.now) setting.now.depth) site.now.step.now site.now.called rs m go (machine.first_registers code.now (machine.argument_registers m rs site.now.arguments.now)) (arguments_pass m rs site.now.arguments.now)) e →
+        Tracks setting.now.program.now setting.now.function (seen t.new v y) (memory_at t.new memory.new v) go e) }
 {
-    let poisoned = passed(t, layout, memory, &x.file, arguments)?;
+    let poisoned = passed(t, setting.layout, memory, &x.file, site.arguments)?;
     let known = settle_passes(t, x, poisoned)?;
-    let file = first_file(alloc, t, layout, memory, &known.file, arguments, code)?;
-    let begun = begin(alloc, t, &known, file, code.blocks.len())?;
-    let after = run_function(
-        alloc, t, layout, program, orders, memory, begun, called, depth,
+    let file = first_file(
+        alloc,
+        t,
+        setting.layout,
+        memory,
+        &known.file,
+        site.arguments,
+        code,
     )?;
-    let made = resume(t, known, after, step.result)?;
+    let begun = begin(alloc, t, &known, file, code.blocks.len())?;
+    let inner = Setting {
+        function: site.called,
+        ..*setting
+    };
+    let after = run_function(alloc, t, &inner, memory, begun)?;
+    let made = resume(t, known, after, site.step.result)?;
     Ok(made)
 }
 
@@ -90,18 +102,12 @@ fn call_code<R: InitialReads>(
 fn call<R: InitialReads>(
     alloc: Global,
     t: &mut Terms,
-    layout: &Layout,
-    program: &Program,
-    orders: &Seq<Seq<u32>>,
+    setting: &Setting,
     memory: &mut SymMemory<R>,
     x: Exec,
-    function: u32,
-    step: &Step,
-    called: u32,
-    arguments: &[Input],
-    depth: u32,
+    site: &CallSite,
 ) -> Result<Exec, AllocError>
-    requires fits { FitsMemory layout.now.objects program.now.objects memory.old }
+    requires fits { FitsMemory setting.now.layout.now.objects setting.now.program.now.objects memory.old }
     requires over { IsOver t.old memory.old }
     requires state { IsExec t.old x }
     ensures frame { Extends t.old t.new }
@@ -109,17 +115,14 @@ fn call<R: InitialReads>(
     ensures within { IfOk result (λ y. IsExec t.new y) }
     ensures over { IfOk result (λ y. IsOver t.new memory.new) }
     ensures tracks { IfOk result (λ y. (v : Reading) (go : Behind) (e : Ending) →
-        Tracks program.now function (seen t.old v x) (memory_at t.old memory.old v) (λ rs m. on_call (walk program.now (order_in orders.now) depth) step.now called arguments.now rs m go (slice_get program.now.functions called)) e →
-        Tracks program.now function (seen t.new v y) (memory_at t.new memory.new v) go e) }
+        Tracks setting.now.program.now setting.now.function (seen t.old v x) (memory_at t.old memory.old v) (λ rs m. on_call (walk setting.now.program.now (order_in setting.now.orders.now) setting.now.depth) site.now.step.now site.now.called site.now.arguments.now rs m go (slice_get setting.now.program.now.functions site.now.called)) e →
+        Tracks setting.now.program.now setting.now.function (seen t.new v y) (memory_at t.new memory.new v) go e) }
 {
-    match code_of(program, called) {
+    match code_of(setting.program, site.called) {
         None => Ok(x),
         Some(code) => {
-            if arguments.len() == code.parameters as usize {
-                let made = call_code(
-                    alloc, t, layout, program, orders, memory, x, function, step, called,
-                    arguments, code, depth,
-                )?;
+            if site.arguments.len() == code.parameters as usize {
+                let made = call_code(alloc, t, setting, memory, x, site, code)?;
                 Ok(made)
             } else {
                 Ok(x)
@@ -134,17 +137,13 @@ fn call<R: InitialReads>(
 fn act<R: InitialReads>(
     alloc: Global,
     t: &mut Terms,
-    layout: &Layout,
-    program: &Program,
-    orders: &Seq<Seq<u32>>,
+    setting: &Setting,
     memory: &mut SymMemory<R>,
     x: Exec,
-    function: u32,
     block: u32,
     step: &Step,
-    depth: u32,
 ) -> Result<Exec, AllocError>
-    requires fits { FitsMemory layout.now.objects program.now.objects memory.old }
+    requires fits { FitsMemory setting.now.layout.now.objects setting.now.program.now.objects memory.old }
     requires over { IsOver t.old memory.old }
     requires state { IsExec t.old x }
     ensures frame { Extends t.old t.new }
@@ -152,32 +151,24 @@ fn act<R: InitialReads>(
     ensures within { IfOk result (λ y. IsExec t.new y) }
     ensures over { IfOk result (λ y. IsOver t.new memory.new) }
     ensures tracks { IfOk result (λ y. (v : Reading) (go : Behind) (e : Ending) →
-        Tracks program.now function (seen t.old v x) (memory_at t.old memory.old v) (λ rs m. walk_act (walk program.now (order_in orders.now) depth) program.now function block step.now rs m go step.now.act) e →
-        Tracks program.now function (seen t.new v y) (memory_at t.new memory.new v) go e) }
+        Tracks setting.now.program.now setting.now.function (seen t.old v x) (memory_at t.old memory.old v) (λ rs m. walk_act (walk setting.now.program.now (order_in setting.now.orders.now) setting.now.depth) setting.now.program.now setting.now.function block step.now rs m go step.now.act) e →
+        Tracks setting.now.program.now setting.now.function (seen t.new v y) (memory_at t.new memory.new v) go e) }
 {
     match &step.act {
         Act::Call {
             function: called,
             arguments,
         } => {
-            let made = call(
-                alloc,
-                t,
-                layout,
-                program,
-                orders,
-                memory,
-                x,
-                function,
+            let site = CallSite {
                 step,
-                *called,
-                arguments.as_slice(),
-                depth,
-            )?;
+                called: *called,
+                arguments: arguments.as_slice(),
+            };
+            let made = call(alloc, t, setting, memory, x, &site)?;
             Ok(made)
         }
         _ => {
-            let made = plain(alloc, t, layout, program, memory, x, function, block, step)?;
+            let made = plain(alloc, t, setting, memory, x, block, step)?;
             Ok(made)
         }
     }
@@ -189,17 +180,13 @@ fn act<R: InitialReads>(
 fn run_steps<R: InitialReads>(
     alloc: Global,
     t: &mut Terms,
-    layout: &Layout,
-    program: &Program,
-    orders: &Seq<Seq<u32>>,
+    setting: &Setting,
     memory: &mut SymMemory<R>,
     x: Exec,
-    function: u32,
     block: u32,
     steps: &[Step],
-    depth: u32,
 ) -> Result<Exec, AllocError>
-    requires fits { FitsMemory layout.now.objects program.now.objects memory.old }
+    requires fits { FitsMemory setting.now.layout.now.objects setting.now.program.now.objects memory.old }
     requires over { IsOver t.old memory.old }
     requires state { IsExec t.old x }
     ensures frame { Extends t.old t.new }
@@ -207,14 +194,12 @@ fn run_steps<R: InitialReads>(
     ensures within { IfOk result (λ y. IsExec t.new y) }
     ensures over { IfOk result (λ y. IsOver t.new memory.new) }
     ensures tracks { IfOk result (λ y. (v : Reading) (e : Ending) →
-        Tracks program.now function (seen t.old v x) (memory_at t.old memory.old v) (walk_steps (walk program.now (order_in orders.now) depth) program.now function block steps.now) e →
-        Rests program.now function (seen t.new v y) (memory_at t.new memory.new v) e) }
+        Tracks setting.now.program.now setting.now.function (seen t.old v x) (memory_at t.old memory.old v) (walk_steps (walk setting.now.program.now (order_in setting.now.orders.now) setting.now.depth) setting.now.program.now setting.now.function block steps.now) e →
+        Rests setting.now.program.now setting.now.function (seen t.new v y) (memory_at t.new memory.new v) e) }
 {
     let mut state = x;
     for step in steps {
-        state = act(
-            alloc, t, layout, program, orders, memory, state, function, block, step, depth,
-        )?;
+        state = act(alloc, t, setting, memory, state, block, step)?;
     }
     Ok(state)
 }
@@ -225,17 +210,13 @@ fn run_steps<R: InitialReads>(
 fn visit_inside<R: InitialReads>(
     alloc: Global,
     t: &mut Terms,
-    layout: &Layout,
-    program: &Program,
-    orders: &Seq<Seq<u32>>,
+    setting: &Setting,
     memory: &mut SymMemory<R>,
     x: Exec,
-    function: u32,
     block: u32,
-    depth: u32,
 ) -> Result<Exec, AllocError>
     requires inside { block < length x.entries }
-    requires fits { FitsMemory layout.now.objects program.now.objects memory.old }
+    requires fits { FitsMemory setting.now.layout.now.objects setting.now.program.now.objects memory.old }
     requires over { IsOver t.old memory.old }
     requires state { IsExec t.old x }
     ensures frame { Extends t.old t.new }
@@ -243,13 +224,11 @@ fn visit_inside<R: InitialReads>(
     ensures within { IfOk result (λ y. IsExec t.new y) }
     ensures over { IfOk result (λ y. IsOver t.new memory.new) }
     ensures rests { IfOk result (λ y. (v : Reading) (e : Ending) →
-        Rests program.now function (seen t.old v x) (memory_at t.old memory.old v) (e) → Rests program.now function (seen t.new v y) (memory_at t.new memory.new v) (along (visit (walk program.now (order_in orders.now) depth) program.now function block) e)) }
+        Rests setting.now.program.now setting.now.function (seen t.old v x) (memory_at t.old memory.old v) (e) → Rests setting.now.program.now setting.now.function (seen t.new v y) (memory_at t.new memory.new v) (along (visit (walk setting.now.program.now (order_in setting.now.orders.now) setting.now.depth) setting.now.program.now setting.now.function block) e)) }
 {
     let begun = enter(t, x, block)?;
-    let steps = behind_phis(steps_of(program, function, block));
-    let made = run_steps(
-        alloc, t, layout, program, orders, memory, begun, function, block, steps, depth,
-    )?;
+    let steps = behind_phis(steps_of(setting.program, setting.function, block));
+    let made = run_steps(alloc, t, setting, memory, begun, block, steps)?;
     Ok(made)
 }
 
@@ -259,16 +238,12 @@ fn visit_inside<R: InitialReads>(
 fn visit<R: InitialReads>(
     alloc: Global,
     t: &mut Terms,
-    layout: &Layout,
-    program: &Program,
-    orders: &Seq<Seq<u32>>,
+    setting: &Setting,
     memory: &mut SymMemory<R>,
     x: Exec,
-    function: u32,
     block: u32,
-    depth: u32,
 ) -> Result<Exec, AllocError>
-    requires fits { FitsMemory layout.now.objects program.now.objects memory.old }
+    requires fits { FitsMemory setting.now.layout.now.objects setting.now.program.now.objects memory.old }
     requires over { IsOver t.old memory.old }
     requires state { IsExec t.old x }
     ensures frame { Extends t.old t.new }
@@ -276,15 +251,13 @@ fn visit<R: InitialReads>(
     ensures within { IfOk result (λ y. IsExec t.new y) }
     ensures over { IfOk result (λ y. IsOver t.new memory.new) }
     ensures rests { IfOk result (λ y. (v : Reading) (e : Ending) →
-        Rests program.now function (seen t.old v x) (memory_at t.old memory.old v) (e) → Rests program.now function (seen t.new v y) (memory_at t.new memory.new v) (along (visit (walk program.now (order_in orders.now) depth) program.now function block) e)) }
+        Rests setting.now.program.now setting.now.function (seen t.old v x) (memory_at t.old memory.old v) (e) → Rests setting.now.program.now setting.now.function (seen t.new v y) (memory_at t.new memory.new v) (along (visit (walk setting.now.program.now (order_in setting.now.orders.now) setting.now.depth) setting.now.program.now setting.now.function block) e)) }
 {
     if (block as usize) < x.entries.len() {
         if is_never(t, x.entries.at(block)) {
             Ok(x)
         } else {
-            let made = visit_inside(
-                alloc, t, layout, program, orders, memory, x, function, block, depth,
-            )?;
+            let made = visit_inside(alloc, t, setting, memory, x, block)?;
             Ok(made)
         }
     } else {
@@ -298,16 +271,12 @@ fn visit<R: InitialReads>(
 fn visit_all<R: InitialReads>(
     alloc: Global,
     t: &mut Terms,
-    layout: &Layout,
-    program: &Program,
-    orders: &Seq<Seq<u32>>,
+    setting: &Setting,
     memory: &mut SymMemory<R>,
     x: Exec,
-    function: u32,
     order: &[u32],
-    depth: u32,
 ) -> Result<Exec, AllocError>
-    requires fits { FitsMemory layout.now.objects program.now.objects memory.old }
+    requires fits { FitsMemory setting.now.layout.now.objects setting.now.program.now.objects memory.old }
     requires over { IsOver t.old memory.old }
     requires state { IsExec t.old x }
     ensures frame { Extends t.old t.new }
@@ -315,13 +284,11 @@ fn visit_all<R: InitialReads>(
     ensures within { IfOk result (λ y. IsExec t.new y) }
     ensures over { IfOk result (λ y. IsOver t.new memory.new) }
     ensures rests { IfOk result (λ y. (v : Reading) (e : Ending) →
-        Rests program.now function (seen t.old v x) (memory_at t.old memory.old v) (e) → Rests program.now function (seen t.new v y) (memory_at t.new memory.new v) (along (visit_all (walk program.now (order_in orders.now) depth) program.now function order.now) e)) }
+        Rests setting.now.program.now setting.now.function (seen t.old v x) (memory_at t.old memory.old v) (e) → Rests setting.now.program.now setting.now.function (seen t.new v y) (memory_at t.new memory.new v) (along (visit_all (walk setting.now.program.now (order_in setting.now.orders.now) setting.now.depth) setting.now.program.now setting.now.function order.now) e)) }
 {
     let mut state = x;
     for block in order {
-        state = visit(
-            alloc, t, layout, program, orders, memory, state, function, *block, depth,
-        )?;
+        state = visit(alloc, t, setting, memory, state, *block)?;
     }
     Ok(state)
 }
@@ -332,15 +299,11 @@ fn visit_all<R: InitialReads>(
 fn run_blocks<R: InitialReads>(
     alloc: Global,
     t: &mut Terms,
-    layout: &Layout,
-    program: &Program,
-    orders: &Seq<Seq<u32>>,
+    setting: &Setting,
     memory: &mut SymMemory<R>,
     x: Exec,
-    function: u32,
-    depth: u32,
 ) -> Result<Exec, AllocError>
-    requires fits { FitsMemory layout.now.objects program.now.objects memory.old }
+    requires fits { FitsMemory setting.now.layout.now.objects setting.now.program.now.objects memory.old }
     requires over { IsOver t.old memory.old }
     requires state { IsExec t.old x }
     ensures frame { Extends t.old t.new }
@@ -348,30 +311,24 @@ fn run_blocks<R: InitialReads>(
     ensures within { IfOk result (λ y. IsExec t.new y) }
     ensures over { IfOk result (λ y. IsOver t.new memory.new) }
     ensures rests { IfOk result (λ y. (v : Reading) (e : Ending) →
-        Rests program.now function (seen t.old v x) (memory_at t.old memory.old v) (e) → Rests program.now function (seen t.new v y) (memory_at t.new memory.new v) (along (visit_all (walk program.now (order_in orders.now) depth) program.now function (order_in orders.now function)) e)) }
+        Rests setting.now.program.now setting.now.function (seen t.old v x) (memory_at t.old memory.old v) (e) → Rests setting.now.program.now setting.now.function (seen t.new v y) (memory_at t.new memory.new v) (along (visit_all (walk setting.now.program.now (order_in setting.now.orders.now) setting.now.depth) setting.now.program.now setting.now.function (order_in setting.now.orders.now setting.now.function)) e)) }
 {
-    let order = order_of(orders, function);
-    let made = visit_all(
-        alloc, t, layout, program, orders, memory, x, function, order, depth,
-    )?;
+    let order = order_of(setting.orders, setting.function);
+    let made = visit_all(alloc, t, setting, memory, x, order)?;
     Ok(made)
 }
 
-/// A function, with calls less than `depth` deep. Where calls go deeper nothing is claimed.
+/// A function, with calls less deep than its setting's depth. Where calls go deeper nothing is claimed.
 #[cycle(running)]
 #[tactic(auto, using(crate::proofs::Kept::over_kept, crate::proofs::Kept::exec_kept, crate::proofs::Running::fits_kept))]
 pub(crate) fn run_function<R: InitialReads>(
     alloc: Global,
     t: &mut Terms,
-    layout: &Layout,
-    program: &Program,
-    orders: &Seq<Seq<u32>>,
+    setting: &Setting,
     memory: &mut SymMemory<R>,
     x: Exec,
-    function: u32,
-    depth: u32,
 ) -> Result<Exec, AllocError>
-    requires fits { FitsMemory layout.now.objects program.now.objects memory.old }
+    requires fits { FitsMemory setting.now.layout.now.objects setting.now.program.now.objects memory.old }
     requires over { IsOver t.old memory.old }
     requires state { IsExec t.old x }
     ensures frame { Extends t.old t.new }
@@ -379,24 +336,18 @@ pub(crate) fn run_function<R: InitialReads>(
     ensures within { IfOk result (λ y. IsExec t.new y) }
     ensures over { IfOk result (λ y. IsOver t.new memory.new) }
     ensures off { IfOk result (λ y. (v : Reading) (k : Bool) (m : Memory) →
-        Rests program.now function (seen t.old v x) (memory_at t.old memory.old v) (Off k m) → Rests program.now function (seen t.new v y) (memory_at t.new memory.new v) (Off k m)) }
+        Rests setting.now.program.now setting.now.function (seen t.old v x) (memory_at t.old memory.old v) (Off k m) → Rests setting.now.program.now setting.now.function (seen t.new v y) (memory_at t.new memory.new v) (Off k m)) }
     ensures on { IfOk result (λ y. (v : Reading) (rs : Registers) (m : Memory) →
-        Rests program.now function (seen t.old v x) (memory_at t.old memory.old v) (On (Goes 0 0 rs m)) → Rests program.now function (seen t.new v y) (memory_at t.new memory.new v) (On (walk program.now (order_in orders.now) depth function rs m))) }
+        Rests setting.now.program.now setting.now.function (seen t.old v x) (memory_at t.old memory.old v) (On (Goes 0 0 rs m)) → Rests setting.now.program.now setting.now.function (seen t.new v y) (memory_at t.new memory.new v) (On (walk setting.now.program.now (order_in setting.now.orders.now) setting.now.depth setting.now.function rs m))) }
 {
-    if depth == 0 {
+    if setting.depth == 0 {
         Ok(x)
     } else {
-        let made = run_blocks(
-            alloc,
-            t,
-            layout,
-            program,
-            orders,
-            memory,
-            x,
-            function,
-            depth - 1,
-        )?;
+        let inside = Setting {
+            depth: setting.depth - 1,
+            ..*setting
+        };
+        let made = run_blocks(alloc, t, &inside, memory, x)?;
         Ok(made)
     }
 }

@@ -23,14 +23,14 @@ use crate::entries::Entries;
 use crate::exec::Exec;
 use crate::orders::{depth_of, orders_of};
 use crate::run::run_function;
+use crate::setting::Setting;
 use crate::starts::argument_file;
 use crate::truths;
-use hk_seq::Seq;
 use hk_symmem::{InitialReads, SymMemory};
 use hk_symstep::SymFile;
 use hk_symvalue::SymValue;
 use hk_term::{TermId, Terms};
-use ir_code::{Code, Program};
+use ir_code::Code;
 use ir_kernel::Kernel;
 use ir_layout::Layout;
 use std::alloc::{AllocError, Global};
@@ -67,35 +67,29 @@ fn outside(alloc: Global, t: &mut Terms) -> Result<Exec, AllocError>
     })
 }
 
-// A function from its first registers on.
+// The function of a setting from its first registers on.
 #[tactic(auto, using(crate::proofs::Kept::over_kept, crate::proofs::Kept::file_kept))]
 fn run_from<R: InitialReads>(
     alloc: Global,
     t: &mut Terms,
-    layout: &Layout,
-    program: &Program,
-    orders: &Seq<Seq<u32>>,
+    setting: &Setting,
     memory: &mut SymMemory<R>,
     file: SymFile,
-    function: u32,
     code: &Code,
-    depth: u32,
 ) -> Result<Exec, AllocError>
-    requires there { slice_get program.now.functions function ≡ Some code.now }
-    requires fits { FitsMemory layout.now.objects program.now.objects memory.old }
+    requires there { slice_get setting.now.program.now.functions setting.now.function ≡ Some code.now }
+    requires fits { FitsMemory setting.now.layout.now.objects setting.now.program.now.objects memory.old }
     requires over { IsOver t.old memory.old }
     requires file { IsFile t.old file }
     ensures frame { Extends t.old t.new }
     ensures origins { memory.new.origins ≡ memory.old.origins }
     ensures within { IfOk result (λ y. IsExec t.new y) }
     ensures over { IfOk result (λ y. IsOver t.new memory.new) }
-    ensures rests { IfOk result (λ y. (v : Reading) → Rests program.now function (seen t.new v y) (memory_at t.new memory.new v) (On (walk program.now (order_in orders.now) depth function (registers_of t.old v file) (memory_at t.old memory.old v)))) }
+    ensures rests { IfOk result (λ y. (v : Reading) → Rests setting.now.program.now setting.now.function (seen t.new v y) (memory_at t.new memory.new v) (On (walk setting.now.program.now (order_in setting.now.orders.now) setting.now.depth setting.now.function (registers_of t.old v file) (memory_at t.old memory.old v)))) }
 {
     let caller = outside(alloc, t)?;
     let begun = begin(alloc, t, &caller, file, code.blocks.len())?;
-    let after = run_function(
-        alloc, t, layout, program, orders, memory, begun, function, depth,
-    )?;
+    let after = run_function(alloc, t, setting, memory, begun)?;
     Ok(after)
 }
 
@@ -139,18 +133,14 @@ pub fn execute<R: InitialReads>(
         code.registers.saturating_sub(code.parameters),
     )?;
     let mut memory = start.copy(alloc)?;
-    let after = run_from(
-        alloc,
-        t,
+    let setting = Setting {
         layout,
         program,
-        &orders,
-        &mut memory,
-        file,
+        orders: &orders,
         function,
-        code,
         depth,
-    )?;
+    };
+    let after = run_from(alloc, t, &setting, &mut memory, file, code)?;
     Ok(SymRun {
         undefined: after.stuck,
         value: after.value,

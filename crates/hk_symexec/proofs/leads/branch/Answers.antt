@@ -13,16 +13,16 @@ use Rattle.hk_symexec.proofs.leads.branch.Goals as goal
 
 pub returns-in-None-clause-tracks : goal.returns-in-None-clause-tracks
 returns-in-None-clause-tracks g c = λ v line go e h.
-    carried c.args.t.now c.operand.new.t c.operand.ensures.frame c.args.program.now c.args.function c.args.memory.now c.requires.over v go e c.args.x c.requires.state
-    (tracks_as c.args.program.now c.args.function (seen c.args.t.now v c.args.x) (memory_at c.args.t.now c.args.memory.now v) (λ rs m. on_target c.args.program.now c.args.function c.args.from line rs m (branch_to (value_of m rs c.args.condition.now) c.args.yes c.args.no)) go e
-    (λ rs on w fine. absurd (off_operand (λ o. on_target c.args.program.now c.args.function c.args.from line rs (memory_at c.args.t.now c.args.memory.now v) (branch_to o c.args.yes c.args.no)) (λ f. f) (value_of (memory_at c.args.t.now c.args.memory.now v) rs c.args.condition.now)
+    carried c.args.t.now c.operand.new.t c.operand.ensures.frame c.args.setting.now.program.now c.args.setting.now.function c.args.memory.now c.requires.over v go e c.args.x c.requires.state
+    (tracks_as c.args.setting.now.program.now c.args.setting.now.function (seen c.args.t.now v c.args.x) (memory_at c.args.t.now c.args.memory.now v) (λ rs m. on_target c.args.setting.now.program.now c.args.setting.now.function c.args.edges.from line rs m (branch_to (value_of m rs c.args.condition.now) c.args.edges.yes c.args.edges.no)) go e
+    (λ rs on w fine. absurd (off_operand (λ o. on_target c.args.setting.now.program.now c.args.setting.now.function c.args.edges.from line rs (memory_at c.args.t.now c.args.memory.now v) (branch_to o c.args.edges.yes c.args.edges.no)) (λ f. f) (value_of (memory_at c.args.t.now c.args.memory.now v) rs c.args.condition.now)
     (λ x q. subst (λ r. value_meaning c.operand.new.t v r ≡ Some x) c.in-None.is (c.in_ok-read.ensures.covered v rs x w q)) fine)) h)
 
 pub returns-in_ok-made-in-Some-clause-tracks : goal.returns-in_ok-made-in-Some-clause-tracks
 returns-in_ok-made-in-Some-clause-tracks g c = λ v line go e h.
-    let one : Behind = (λ rs m. on_target c.args.program.now c.args.function c.args.from line rs m (branch_to (Some (meaning c.operand.new.t c.in-Some.on v)) c.args.yes c.args.no)) in
+    let one : Behind = (λ rs m. on_target c.args.setting.now.program.now c.args.setting.now.function c.args.edges.from line rs m (branch_to (Some (meaning c.operand.new.t c.in-Some.on v)) c.args.edges.yes c.args.edges.no)) in
     c.in_ok-made-in-Some.ensures.tracks v line go e
-    (carried c.args.t.now c.operand.new.t c.operand.ensures.frame c.args.program.now c.args.function c.args.memory.now c.requires.over v one e c.args.x c.requires.state
-    (tracks_as c.args.program.now c.args.function (seen c.args.t.now v c.args.x) (memory_at c.args.t.now c.args.memory.now v) (λ rs m. on_target c.args.program.now c.args.function c.args.from line rs m (branch_to (value_of m rs c.args.condition.now) c.args.yes c.args.no)) one e
-    (λ rs on w fine. on_operand (λ o. on_target c.args.program.now c.args.function c.args.from line rs (memory_at c.args.t.now c.args.memory.now v) (branch_to o c.args.yes c.args.no)) (λ f. f) (value_of (memory_at c.args.t.now c.args.memory.now v) rs c.args.condition.now) (meaning c.operand.new.t c.in-Some.on v)
+    (carried c.args.t.now c.operand.new.t c.operand.ensures.frame c.args.setting.now.program.now c.args.setting.now.function c.args.memory.now c.requires.over v one e c.args.x c.requires.state
+    (tracks_as c.args.setting.now.program.now c.args.setting.now.function (seen c.args.t.now v c.args.x) (memory_at c.args.t.now c.args.memory.now v) (λ rs m. on_target c.args.setting.now.program.now c.args.setting.now.function c.args.edges.from line rs m (branch_to (value_of m rs c.args.condition.now) c.args.edges.yes c.args.edges.no)) one e
+    (λ rs on w fine. on_operand (λ o. on_target c.args.setting.now.program.now c.args.setting.now.function c.args.edges.from line rs (memory_at c.args.t.now c.args.memory.now v) (branch_to o c.args.edges.yes c.args.edges.no)) (λ f. f) (value_of (memory_at c.args.t.now c.args.memory.now v) rs c.args.condition.now) (meaning c.operand.new.t c.in-Some.on v)
     (λ x q. subst (λ r. value_meaning c.operand.new.t v r ≡ Some x) c.in-Some.is (c.in_ok-read.ensures.covered v rs x w q)) fine) h))

@@ -16,9 +16,9 @@ returns-clause-tracks g c = λ P f v line go e h.
     let kept = seen_kept c.args.t.now c.store.new.t c.store.ensures.frame c.args.x c.requires.state v in
     memory_carried c.store.new.t c.stick.new.t c.in_ok-made.ensures.frame P f c.store.new.memory c.in_ok-stuck.ensures.over v go e (seen c.stick.new.t v c.in_ok-made.made)
     (subst (λ s. Tracks P f s (memory_at c.store.new.t c.store.new.memory v) go e) (sym (c.in_ok-made.ensures.seen v))
-    (writes P f (seen c.store.new.t v c.args.x) (memory_at c.args.t.now c.args.memory.now v) (memory_at c.store.new.t c.store.new.memory v) (λ rs m. on_store line c.args.bytes rs m go (stored m c.args.objects.now c.args.bytes c.args.align (Some (meaning c.args.t.now c.args.value v)) (Some (meaning c.args.t.now c.args.address v)))) go e (is_true c.store.new.t c.in_ok-stuck.stuck v)
+    (writes P f (seen c.store.new.t v c.args.x) (memory_at c.args.t.now c.args.memory.now v) (memory_at c.store.new.t c.store.new.memory v) (λ rs m. on_store line c.args.access.bytes rs m go (stored m c.args.setting.now.program.now.objects c.args.access.bytes c.args.access.align (Some (meaning c.args.t.now c.args.value v)) (Some (meaning c.args.t.now c.args.access.address v)))) go e (is_true c.store.new.t c.in_ok-stuck.stuck v)
     (λ off. c.in_ok-stuck.ensures.away v (sym (ap (λ s. s.guard) kept) ∙ off))
-    (λ on rs w fine. store_splits line c.args.bytes rs (memory_at c.args.t.now c.args.memory.now v) (memory_at c.store.new.t c.store.new.memory v) go (is_true c.store.new.t c.in_ok-stuck.stuck v)
-    (stored (memory_at c.args.t.now c.args.memory.now v) c.args.objects.now c.args.bytes c.args.align (Some (meaning c.args.t.now c.args.value v)) (Some (meaning c.args.t.now c.args.address v)))
+    (λ on rs w fine. store_splits line c.args.access.bytes rs (memory_at c.args.t.now c.args.memory.now v) (memory_at c.store.new.t c.store.new.memory v) go (is_true c.store.new.t c.in_ok-stuck.stuck v)
+    (stored (memory_at c.args.t.now c.args.memory.now v) c.args.setting.now.program.now.objects c.args.access.bytes c.args.access.align (Some (meaning c.args.t.now c.args.value v)) (Some (meaning c.args.t.now c.args.access.address v)))
     (c.in_ok-stuck.ensures.here v (sym (ap (λ s. s.guard) kept) ∙ on)) fine)
-    (subst (λ s. Tracks P f s (memory_at c.args.t.now c.args.memory.now v) (λ rs m. on_store line c.args.bytes rs m go (stored m c.args.objects.now c.args.bytes c.args.align (Some (meaning c.args.t.now c.args.value v)) (Some (meaning c.args.t.now c.args.address v)))) e) (sym kept) h)))
+    (subst (λ s. Tracks P f s (memory_at c.args.t.now c.args.memory.now v) (λ rs m. on_store line c.args.access.bytes rs m go (stored m c.args.setting.now.program.now.objects c.args.access.bytes c.args.access.align (Some (meaning c.args.t.now c.args.value v)) (Some (meaning c.args.t.now c.args.access.address v)))) e) (sym kept) h)))
