@@ -33,7 +33,7 @@ use crate::states::{abstraction_of, step_from};
 use crate::truths::{agreement_terms, all_invariants, invariant_terms};
 use hk_seq::Seq;
 use hk_symmem::{InitialReads, SymMemory};
-use hk_symresult::{SymResult, execute_to_result};
+use hk_symresult::{Called, SymResult, execute_to_result};
 use hk_symspec::SymStep;
 use hk_term::{TermId, Terms};
 use ir_kernel::Kernel;
@@ -190,16 +190,11 @@ fn executed<R: InitialReads>(
     ensures told { IfOk result (λ r. (v : Reading) (m : Memory) (ns : List ℕ) → IsMemoryAt t.old start.now v m → AreNumbersAt t.old args.now v ns →
         TellOut (view_module kernel.now) t.new v transition.now.function m ns r.undefined r.result r.memory) }
 {
-    let run = execute_to_result(
-        alloc,
-        kernel,
-        kernel.layout(),
-        transition.function,
-        transition.result_width,
-        args,
-        start,
-        t,
-    )?;
+    let called = Called {
+        function: transition.function,
+        result_width: transition.result_width,
+    };
+    let run = execute_to_result(alloc, kernel, kernel.layout(), called, args, start, t)?;
     Ok(run)
 }
 

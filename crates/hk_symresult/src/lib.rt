@@ -7,4 +7,4 @@
 
 mod result;
 
-pub use result::{SymResult, execute_to_result};
+pub use result::{Called, SymResult, execute_to_result};

@@ -26,6 +26,14 @@ use ir_kernel::Kernel;
 use ir_layout::{KMemory, Layout};
 use std::alloc::{AllocError, Global};
 
+/// The function of a kernel that is executed, by its place.
+#[derive(Clone, Copy)]
+pub struct Called {
+    pub function: u32,
+    /// The bits of its result; 0 where that is void.
+    pub result_width: u32,
+}
+
 /// What the run of a function comes to, as terms.
 #[derive(Drop)]
 pub struct SymResult<R: InitialReads> {
@@ -100,7 +108,7 @@ fn result_of(t: &mut Terms, w: u32, held: Option<SymValue>) -> Result<Option<Ter
 }
 
 /// Executes a function of a kernel, which takes integers and gives an integer of a width or nothing, on terms for its arguments and on a
-/// symbolic memory over the kernel's layout. For a void function the width is 0.
+/// symbolic memory over the kernel's layout.
 ///
 /// Under each reading the run of the machine from these arguments and this memory has an end, and the terms tell it: where it is stuck
 /// `undefined` is true; where it returns `undefined` is false, the memory is the one behind it, and the result's term has the number that
@@ -110,36 +118,35 @@ pub fn execute_to_result<R: InitialReads>(
     alloc: Global,
     kernel: &Kernel,
     layout: &Layout,
-    function: u32,
-    result_width: u32,
+    called: Called,
     arguments: &[TermId],
     start: &SymMemory<R>,
     t: &mut Terms,
 ) -> Result<SymResult<R>, AllocError>
     requires runnable { IsRunnable (view_module kernel.now) }
-    requires fit { Takes (view_module kernel.now) function (widths_of t.old arguments.now) result_width }
-    requires width { result_width ≤ 64 }
+    requires fit { Takes (view_module kernel.now) called.function (widths_of t.old arguments.now) called.result_width }
+    requires width { called.result_width ≤ 64 }
     requires layout { IsLayoutOf (view_module kernel.now) layout.now }
     requires arguments { All (λ a. a < length t.old) arguments.now }
     requires memory { IsMemoryOf layout.now.objects start.now }
     requires over { IsOver t.old start.now }
     ensures frame { Extends t.old t.new }
     ensures undefined { IfOk result (λ r. IsTruth t.new r.undefined) }
-    ensures result { IfOk result (λ r. IsResultTerm t.new result_width r.result) }
+    ensures result { IfOk result (λ r. IsResultTerm t.new called.result_width r.result) }
     ensures origins { IfOk result (λ r. r.memory.origins ≡ start.now.origins) }
     ensures over { IfOk result (λ r. IsOver t.new r.memory) }
     ensures first { IfOk result (λ r. (v : Reading) → HoldsObjects layout.now.objects (memory_at t.old start.now v)) }
     ensures objects { IfOk result (λ r. (v : Reading) → HoldsObjects layout.now.objects (memory_at t.new r.memory v)) }
-    ensures there { IfOk result (λ r. (v : Reading) → HasEnd (view_module kernel.now) function (arguments_at t.old v arguments.now) (memory_at t.old start.now v)) }
-    ensures ends { IfOk result (λ r. (v : Reading) (end : RunEnd) → IsEndOfRun (view_module kernel.now) function (arguments_at t.old v arguments.now) (memory_at t.old start.now v) end → TellsEnd t.new v r.undefined r.result r.memory end) }
+    ensures there { IfOk result (λ r. (v : Reading) → HasEnd (view_module kernel.now) called.function (arguments_at t.old v arguments.now) (memory_at t.old start.now v)) }
+    ensures ends { IfOk result (λ r. (v : Reading) (end : RunEnd) → IsEndOfRun (view_module kernel.now) called.function (arguments_at t.old v arguments.now) (memory_at t.old start.now v) end → TellsEnd t.new v r.undefined r.result r.memory end) }
 {
     // For the proof: each function of the kernel has an order of its blocks in which edges go forward.
     let _checked = kernel.checked();
     // For the proof: each node of the list fits behind those before it.
     let _len = t.len();
     look_at_objects(alloc, kernel, layout)?;
-    let run = execute(alloc, kernel, layout, function, arguments, start, t)?;
-    let result = result_of(t, result_width, run.value)?;
+    let run = execute(alloc, kernel, layout, called.function, arguments, start, t)?;
+    let result = result_of(t, called.result_width, run.value)?;
     Ok(SymResult {
         undefined: run.undefined,
         result,

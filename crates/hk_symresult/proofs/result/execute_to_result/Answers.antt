@@ -18,7 +18,7 @@ returns-clause-objects g c = λ v.
 
 pub returns-clause-there : goal.returns-clause-there
 returns-clause-there g c = λ v.
-    has_end (view_module c.args.kernel.now) c.args.function _ c.args.result_width (arguments_at c.args.t.now v c.args.arguments.now) (memory_at c.args.t.now c.args.start.now v)
+    has_end (view_module c.args.kernel.now) c.args.called.function _ c.args.called.result_width (arguments_at c.args.t.now v c.args.arguments.now) (memory_at c.args.t.now c.args.start.now v)
     c.requires.runnable c.checked-checked.ensures.ordered c.requires.fit
 
 pub returns-clause-ends : goal.returns-clause-ends
@@ -28,7 +28,7 @@ returns-clause-ends g c = λ v.
     let terms = c.args.arguments.now in
     let memory = memory_at nodes c.args.start.now v in
     let first = holds_objects c.args.layout.now.objects nodes c.args.start.now v c.requires.memory c.in_ok-look_at_objects.ensures in
-    told m c.args.function (arguments_at nodes v terms) memory c.requires.fit.called c.requires.runnable
-    (fit_call m c.args.function nodes terms c.args.result_width v memory c.len-len.ensures.fit c.requires.arguments c.requires.fit first.bytes)
-    c.args.result_width c.requires.fit.gives c.execute.new.t c.result_of.new.t v c.in_ok-run.run'.undefined c.in_ok-run.run'.value c.in_ok-result.result c.in_ok-run.run'.memory
+    told m c.args.called.function (arguments_at nodes v terms) memory c.requires.fit.called c.requires.runnable
+    (fit_call m c.args.called.function nodes terms c.args.called.result_width v memory c.len-len.ensures.fit c.requires.arguments c.requires.fit first.bytes)
+    c.args.called.result_width c.requires.fit.gives c.execute.new.t c.result_of.new.t v c.in_ok-run.run'.undefined c.in_ok-run.run'.value c.in_ok-result.result c.in_ok-run.run'.memory
     c.result_of.ensures.frame c.in_ok-run.ensures.undefined c.in_ok-run.ensures.over c.in_ok-result.ensures.none (c.in_ok-result.ensures.number v) (c.in_ok-run.ensures.runs v)
