@@ -18,6 +18,14 @@ use ir_kernel::Kernel;
 use ir_layout::Layout;
 use std::alloc::{AllocError, Global};
 
+/// A function of a kernel, by its place, beside the layout of the kernel's objects.
+#[derive(Clone, Copy)]
+pub struct Function<'a> {
+    pub kernel: &'a Kernel,
+    pub layout: &'a Layout,
+    pub place: u32,
+}
+
 /// A part of the memory behind a run: the number in so many bytes of an object from an offset on.
 #[derive(Clone, Copy)]
 pub struct Part {
@@ -151,23 +159,26 @@ fn all_parts<R: InitialReads>(
     Ok(parts)
 }
 
-/// Executes the function at a place on these terms, over the initial memory that the reads give.
+/// Executes a function on these terms, over the initial memory that the reads give.
 fn executed_on<R: InitialReads>(
     alloc: Global,
-    kernel: &Kernel,
-    layout: &Layout,
-    place: u32,
+    function: &Function,
     arguments: &[TermId],
     reads: R,
     sizes: Option<&[u32]>,
     terms: Terms,
 ) -> Result<Execution, AllocError>
-    requires call { CanCall (view_module kernel.now) place arguments.now }
+    requires call { CanCall (view_module function.now.kernel.now) function.now.place arguments.now }
     requires arguments { All (λ a. a < length terms) arguments.now }
-    requires layout { IsLayoutOf (view_module kernel.now) layout.now }
-    requires origins { AreOriginsOf layout.now.objects (R.origins reads) }
+    requires layout { IsLayoutOf (view_module function.now.kernel.now) function.now.layout.now }
+    requires origins { AreOriginsOf function.now.layout.now.objects (R.origins reads) }
 {
     let mut terms = terms;
+    let Function {
+        kernel,
+        layout,
+        place,
+    } = *function;
     let start = SymMemory::new(alloc, layout, reads)?;
     let run = execute(alloc, kernel, layout, place, arguments, &start, &mut terms)?;
     let parts = match sizes {
@@ -182,29 +193,25 @@ fn executed_on<R: InitialReads>(
     })
 }
 
-/// Executes the function at a place on variables of these widths, over the initial memory that the reads give. The numbers are as many
+/// Executes a function on variables of these widths, over the initial memory that the reads give. The numbers are as many
 /// as the variables, and can be passed to the function. Where sizes are given, the memory behind the run is made terms too.
 #[tactic(auto, using(crate::proofs::Calls::same_call))]
 pub fn executed<R: InitialReads>(
     alloc: Global,
-    kernel: &Kernel,
-    layout: &Layout,
-    place: u32,
+    function: &Function,
     numbers: &[u64],
     widths: &[u32],
     reads: R,
     sizes: Option<&[u32]>,
 ) -> Result<Execution, AllocError>
-    requires call { CanCall (view_module kernel.now) place numbers.now }
-    requires layout { IsLayoutOf (view_module kernel.now) layout.now }
-    requires origins { AreOriginsOf layout.now.objects (R.origins reads) }
+    requires call { CanCall (view_module function.now.kernel.now) function.now.place numbers.now }
+    requires layout { IsLayoutOf (view_module function.now.kernel.now) function.now.layout.now }
+    requires origins { AreOriginsOf function.now.layout.now.objects (R.origins reads) }
 {
     let mut terms = Terms::new(alloc);
     let arguments = variables(alloc, &mut terms, widths)?;
     if arguments.len() != numbers.len() || !are_there(&terms, &arguments) {
         return Err(AllocError);
     }
-    executed_on(
-        alloc, kernel, layout, place, &arguments, reads, sizes, terms,
-    )
+    executed_on(alloc, function, &arguments, reads, sizes, terms)
 }

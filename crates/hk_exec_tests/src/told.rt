@@ -6,7 +6,7 @@ ghost use Rattle.ir_layout.specs.Layouts.{IsLayoutOf};
 ghost use Rattle.hk_symmem.specs.Origins.{AreOriginsOf};
 
 use crate::compared::agrees;
-use crate::executed::{Execution, executed};
+use crate::executed::{Execution, Function, executed};
 use crate::functions::{Subject, zeros};
 use crate::random::Random;
 use crate::states::{arguments, by_bytes, fill, with_numbers};
@@ -31,6 +31,15 @@ pub enum Mode {
     Cells,
     /// It is executed over both, and run so many times.
     Compare(u64),
+}
+
+/// A function of a kernel with its executions over bytes and over cells.
+#[derive(Clone, Copy)]
+struct Both<'a> {
+    kernel: &'a Kernel,
+    subject: &'a Subject,
+    bytes: &'a Execution,
+    cells: &'a Execution,
 }
 
 /// How runs and terms compare.
@@ -68,7 +77,12 @@ pub fn over_bytes(
     let widths = subject.widths.as_slice();
     let single: &[u32] = &[];
     let sizes = if whole { Some(single) } else { None };
-    let made = executed(alloc, kernel, layout, place, numbers, widths, reads, sizes)?;
+    let function = Function {
+        kernel,
+        layout,
+        place,
+    };
+    let made = executed(alloc, &function, numbers, widths, reads, sizes)?;
     Ok(made)
 }
 
@@ -87,16 +101,13 @@ pub fn over_cells(
     let reads = CellReads::new(alloc, kernel.checked().module(), layout)?;
     let sizes = cell_sizes(alloc, layout, &reads)?;
     let widths = subject.widths.as_slice();
-    let made = executed(
-        alloc,
+    let sizes = if whole { Some(sizes.as_slice()) } else { None };
+    let function = Function {
         kernel,
         layout,
         place,
-        numbers,
-        widths,
-        reads,
-        if whole { Some(sizes.as_slice()) } else { None },
-    )?;
+    };
+    let made = executed(alloc, &function, numbers, widths, reads, sizes)?;
     Ok(made)
 }
 
@@ -177,31 +188,25 @@ fn both_agree(
 /// A run beside both executions.
 fn compare_run(
     alloc: Global,
-    kernel: &Kernel,
-    name: &Name,
+    both: &Both,
     numbers: &[u64],
     state: &(KMemory, Valuation),
     v: &Valuation,
-    bytes: &Execution,
-    cells: &Execution,
     counts: Counts,
 ) -> Result<Counts, AllocError> {
-    let end = run_of(alloc, kernel, name, numbers, &state.0)?;
+    let end = run_of(alloc, both.kernel, &both.subject.name, numbers, &state.0)?;
     let stuck = matches!(&end, RunEnd::Stuck { .. });
-    let agree = both_agree(alloc, bytes, cells, &state.1, v, &end)?;
+    let agree = both_agree(alloc, both.bytes, both.cells, &state.1, v, &end)?;
     Ok(counted(counts, stuck, agree))
 }
 
 /// A run with these arguments from a random state, beside both executions.
 fn compare_numbers(
     alloc: Global,
-    kernel: &Kernel,
-    name: &Name,
+    both: &Both,
     numbers: &[u64],
     layout: &Layout,
     reads: &CellReads,
-    bytes: &Execution,
-    cells: &Execution,
     random: &mut Random,
     counts: Counts,
 ) -> Result<Counts, AllocError>
@@ -209,60 +214,35 @@ fn compare_numbers(
 {
     let v = by_cells(alloc, numbers, layout, reads, random)?;
     let state = state_of(alloc, numbers, layout, reads, &v)?;
-    compare_run(
-        alloc, kernel, name, numbers, &state, &v, bytes, cells, counts,
-    )
+    compare_run(alloc, both, numbers, &state, &v, counts)
 }
 
 /// A run from a random state, beside both executions.
 fn compare_one(
     alloc: Global,
-    kernel: &Kernel,
-    subject: &Subject,
+    both: &Both,
     layout: &Layout,
     reads: &CellReads,
-    bytes: &Execution,
-    cells: &Execution,
     random: &mut Random,
     counts: Counts,
 ) -> Result<Counts, AllocError>
     requires { AreOriginsOf layout.now.objects reads.now }
 {
-    let numbers = arguments(alloc, subject.widths.as_slice(), random)?;
-    let name = &subject.name;
-    compare_numbers(
-        alloc, kernel, name, &numbers, layout, reads, bytes, cells, random, counts,
-    )
+    let numbers = arguments(alloc, both.subject.widths.as_slice(), random)?;
+    compare_numbers(alloc, both, &numbers, layout, reads, random, counts)
 }
 
 /// Runs from so many random states, beside both executions.
-fn compare(
-    alloc: Global,
-    kernel: &Kernel,
-    subject: &Subject,
-    bytes: &Execution,
-    cells: &Execution,
-    count: u64,
-) -> Result<Counts, AllocError> {
-    let layout = kernel.layout();
-    let reads = CellReads::new(alloc, kernel.checked().module(), layout)?;
+fn compare(alloc: Global, both: &Both, count: u64) -> Result<Counts, AllocError> {
+    let layout = both.kernel.layout();
+    let reads = CellReads::new(alloc, both.kernel.checked().module(), layout)?;
     let mut random = Random::new(count);
     let mut counts = Counts {
         stuck: 0,
         differ: 0,
     };
     for _ in 0..count {
-        counts = compare_one(
-            alloc,
-            kernel,
-            subject,
-            layout,
-            &reads,
-            bytes,
-            cells,
-            &mut random,
-            counts,
-        )?;
+        counts = compare_one(alloc, both, layout, &reads, &mut random, counts)?;
     }
     Ok(counts)
 }
@@ -304,7 +284,13 @@ fn told_of(
         Mode::Compare(count) => {
             let bytes = over_bytes(alloc, kernel, subject, numbers, place, true)?;
             let cells = over_cells(alloc, kernel, subject, numbers, place, true)?;
-            let counts = compare(alloc, kernel, subject, &bytes, &cells, count)?;
+            let both = Both {
+                kernel,
+                subject,
+                bytes: &bytes,
+                cells: &cells,
+            };
+            let counts = compare(alloc, &both, count)?;
             told(alloc, counts, count)
         }
     }

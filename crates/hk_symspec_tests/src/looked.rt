@@ -16,24 +16,30 @@ use hk_symmem::{ByteReads, SymMemory};
 use spec_tree::Spec;
 use std::alloc::{AllocError, Global};
 
+/// The initial memory of a kernel, by cells and by bytes.
+#[derive(Clone, Copy)]
+pub struct Memories<'a> {
+    pub cells: &'a SymMemory<CellReads>,
+    pub bytes: &'a SymMemory<ByteReads>,
+}
+
 /// Adds the term of a part at a place.
 fn tell_over(
     alloc: Global,
     spec: &Spec,
-    cells: &SymMemory<CellReads>,
-    bytes: &SymMemory<ByteReads>,
+    memories: &Memories,
     over: Over,
     part: Part,
     at: At,
     tellings: &mut Vec<Telling>,
 ) -> Result<(), AllocError>
     requires spec { IsWellSorted (view_spec spec.now) }
-    requires cells { (nodes : List Node) → IsKernelOver (view_spec spec.now) nodes cells.now }
-    requires bytes { (nodes : List Node) → IsKernelOver (view_spec spec.now) nodes bytes.now }
+    requires cells { (nodes : List Node) → IsKernelOver (view_spec spec.now) nodes memories.now.cells.now }
+    requires bytes { (nodes : List Node) → IsKernelOver (view_spec spec.now) nodes memories.now.bytes.now }
 {
     let telling = match over {
-        Over::Cells => tell(alloc, spec, cells, over, part, at)?,
-        _ => tell(alloc, spec, bytes, over, part, at)?,
+        Over::Cells => tell(alloc, spec, memories.cells, over, part, at)?,
+        _ => tell(alloc, spec, memories.bytes, over, part, at)?,
     };
     tellings.push(telling)?;
     Ok(())
@@ -61,21 +67,20 @@ fn is_abstract(part: Part) -> bool {
 fn tell_each(
     alloc: Global,
     spec: &Spec,
-    cells: &SymMemory<CellReads>,
-    bytes: &SymMemory<ByteReads>,
+    memories: &Memories,
     part: Part,
     tellings: &mut Vec<Telling>,
 ) -> Result<(), AllocError>
     requires spec { IsWellSorted (view_spec spec.now) }
-    requires cells { (nodes : List Node) → IsKernelOver (view_spec spec.now) nodes cells.now }
-    requires bytes { (nodes : List Node) → IsKernelOver (view_spec spec.now) nodes bytes.now }
+    requires cells { (nodes : List Node) → IsKernelOver (view_spec spec.now) nodes memories.now.cells.now }
+    requires bytes { (nodes : List Node) → IsKernelOver (view_spec spec.now) nodes memories.now.bytes.now }
 {
     let at = At::Variables;
-    tell_over(alloc, spec, cells, bytes, Over::Cells, part, at, tellings)?;
-    tell_over(alloc, spec, cells, bytes, Over::Bytes, part, at, tellings)?;
+    tell_over(alloc, spec, memories, Over::Cells, part, at, tellings)?;
+    tell_over(alloc, spec, memories, Over::Bytes, part, at, tellings)?;
     if is_abstract(part) {
-        tell_over(alloc, spec, cells, bytes, Over::First, part, at, tellings)?;
-        tell_over(alloc, spec, cells, bytes, Over::Later, part, at, tellings)?;
+        tell_over(alloc, spec, memories, Over::First, part, at, tellings)?;
+        tell_over(alloc, spec, memories, Over::Later, part, at, tellings)?;
     }
     Ok(())
 }
@@ -84,47 +89,31 @@ fn tell_each(
 fn tell_all(
     alloc: Global,
     spec: &Spec,
-    cells: &SymMemory<CellReads>,
-    bytes: &SymMemory<ByteReads>,
+    memories: &Memories,
     part: Part,
     tellings: &mut Vec<Telling>,
 ) -> Result<(), AllocError>
     requires spec { IsWellSorted (view_spec spec.now) }
-    requires cells { (nodes : List Node) → IsKernelOver (view_spec spec.now) nodes cells.now }
-    requires bytes { (nodes : List Node) → IsKernelOver (view_spec spec.now) nodes bytes.now }
+    requires cells { (nodes : List Node) → IsKernelOver (view_spec spec.now) nodes memories.now.cells.now }
+    requires bytes { (nodes : List Node) → IsKernelOver (view_spec spec.now) nodes memories.now.bytes.now }
 {
-    tell_each(alloc, spec, cells, bytes, part, tellings)?;
+    tell_each(alloc, spec, memories, part, tellings)?;
     let keys = keys_in(spec, part);
     for k in 0..tuples_in(keys) {
         let over = over_at(k);
-        tell_over(
-            alloc,
-            spec,
-            cells,
-            bytes,
-            over,
-            part,
-            At::Tuple(k),
-            tellings,
-        )?;
+        tell_over(alloc, spec, memories, over, part, At::Tuple(k), tellings)?;
     }
     Ok(())
 }
 
 /// A part with its terms.
-fn look(
-    alloc: Global,
-    spec: &Spec,
-    cells: &SymMemory<CellReads>,
-    bytes: &SymMemory<ByteReads>,
-    part: Part,
-) -> Result<Looked, AllocError>
+fn look(alloc: Global, spec: &Spec, memories: &Memories, part: Part) -> Result<Looked, AllocError>
     requires spec { IsWellSorted (view_spec spec.now) }
-    requires cells { (nodes : List Node) → IsKernelOver (view_spec spec.now) nodes cells.now }
-    requires bytes { (nodes : List Node) → IsKernelOver (view_spec spec.now) nodes bytes.now }
+    requires cells { (nodes : List Node) → IsKernelOver (view_spec spec.now) nodes memories.now.cells.now }
+    requires bytes { (nodes : List Node) → IsKernelOver (view_spec spec.now) nodes memories.now.bytes.now }
 {
     let mut tellings = Vec::new(alloc);
-    tell_all(alloc, spec, cells, bytes, part, &mut tellings)?;
+    tell_all(alloc, spec, memories, part, &mut tellings)?;
     Ok(Looked {
         part,
         tellings,
@@ -137,20 +126,15 @@ fn look(
 }
 
 /// The parts of a specification with their terms.
-pub fn looked_at(
-    alloc: Global,
-    spec: &Spec,
-    cells: &SymMemory<CellReads>,
-    bytes: &SymMemory<ByteReads>,
-) -> Result<Vec<Looked>, AllocError>
+pub fn looked_at(alloc: Global, spec: &Spec, memories: &Memories) -> Result<Vec<Looked>, AllocError>
     requires spec { IsWellSorted (view_spec spec.now) }
-    requires cells { (nodes : List Node) → IsKernelOver (view_spec spec.now) nodes cells.now }
-    requires bytes { (nodes : List Node) → IsKernelOver (view_spec spec.now) nodes bytes.now }
+    requires cells { (nodes : List Node) → IsKernelOver (view_spec spec.now) nodes memories.now.cells.now }
+    requires bytes { (nodes : List Node) → IsKernelOver (view_spec spec.now) nodes memories.now.bytes.now }
 {
     let mut looked = Vec::new(alloc);
     let parts = parts_of(alloc, spec)?;
     for part in &parts {
-        looked.push(look(alloc, spec, cells, bytes, *part)?)?;
+        looked.push(look(alloc, spec, memories, *part)?)?;
     }
     Ok(looked)
 }
