@@ -20,7 +20,7 @@ use crate::state::SymHeld;
 use hk_symaccess::size_of;
 use hk_symmem::{InitialReads, SymMemory};
 use hk_symvalue::words::number;
-use hk_symvalue::{SymValue, begin, of_value, step};
+use hk_symvalue::{Stride, SymValue, begin, of_value, step};
 use hk_term::{TermId, Terms};
 use ir_code::{Base, Input, Move};
 use ir_layout::Layout;
@@ -128,7 +128,12 @@ fn stepped<R: InitialReads>(
     ensures value { IfOk result (λ r. (v : Reading) → meaning t.new r v ≡ step_of inbounds (definition.size_at (memory_at t.old memory.now v) (meaning t.old from v)) width each (meaning t.old index v) (meaning t.old from v)) }
 {
     let size = size_for(t, layout, memory, inbounds, from.base)?;
-    let made = step(t, inbounds, size, width, each, index, from)?;
+    let stride = Stride {
+        inbounds,
+        width,
+        each,
+    };
+    let made = step(t, stride, size, index, from)?;
     Ok(made)
 }
 
