@@ -275,6 +275,13 @@ fn result_width(width: Option<u32>) -> u32
     }
 }
 
+/// What the return line of a transition comes to.
+#[derive(Drop)]
+struct Ended {
+    valid: Expr,
+    result: Option<Expr>,
+}
+
 /// The transition that ends, with these lines.
 fn transition_with(
     alloc: Global,
@@ -283,10 +290,9 @@ fn transition_with(
     state: &[u8],
     head: &Head<'_>,
     place: u32,
-    valid: Expr,
-    r: Option<Expr>,
+    ended: Ended,
 ) -> Result<Transition, AllocError>
-    ensures { IfOk result (λ t. view_transition t ≡ definition.transition_with (view_here here.now) (map view_line lines.items) state.now (view_head head.now) place (view_expr valid) (option_map view_expr r)) }
+    ensures { IfOk result (λ t. view_transition t ≡ definition.transition_with (view_here here.now) (map view_line lines.items) state.now (view_head head.now) place (view_expr ended.valid) (option_map view_expr ended.result)) }
 {
     let name = Name::copy_of(alloc, head.name)?;
     let widths = widths_of(alloc, types_of(here.scope.kernel, head.name))?;
@@ -296,9 +302,9 @@ fn transition_with(
         function: place,
         widths: SizeList::of(widths),
         lines: LineList::of(lines),
-        valid,
+        valid: ended.valid,
         returns_new: is_new(here.scope.meaning(state)),
-        result: r,
+        result: ended.result,
         result_width: result_width(here.result),
     })
 }
@@ -312,13 +318,12 @@ impl Made {
         state: &[u8],
         head: &Head<'_>,
         place: u32,
-        valid: Expr,
-        r: Option<Expr>,
+        ended: Ended,
     ) -> Result<(), AllocError>
-        ensures { OnOk result (view_made self.new ≡ definition.with_transition (view_here here.now) (view_made self.old) state.now (view_head head.now) place (view_expr valid) (option_map view_expr r)) }
+        ensures { OnOk result (view_made self.new ≡ definition.with_transition (view_here here.now) (view_made self.old) state.now (view_head head.now) place (view_expr ended.valid) (option_map view_expr ended.result)) }
     {
         let lines = mem::replace(&mut self.lines, Vec::new(alloc));
-        let made = transition_with(alloc, here, lines, state, head, place, valid, r)?;
+        let made = transition_with(alloc, here, lines, state, head, place, ended)?;
         self.transitions.push(made)?;
         Ok(())
     }
@@ -330,24 +335,21 @@ impl Made {
         here: &Here<'_>,
         state: &[u8],
         head: &Head<'_>,
-        valid: Expr,
-        r: Option<Expr>,
+        ended: Ended,
     ) -> Result<(), AllocError>
-        ensures { OnOk result (view_made self.new ≡ definition.head_made (view_here here.now) (view_made self.old) state.now (view_expr valid) (option_map view_expr r) (view_head head.now) head.now.place) }
+        ensures { OnOk result (view_made self.new ≡ definition.head_made (view_here here.now) (view_made self.old) state.now (view_expr ended.valid) (option_map view_expr ended.result) (view_head head.now) head.now.place) }
     {
         match head.place {
             Some(place) => {
                 if is_handler(head.kind) {
-                    self.add_transition(alloc, here, state, head, place, valid, r)
+                    self.add_transition(alloc, here, state, head, place, ended)
                 } else {
-                    drop(valid);
-                    drop(r);
+                    drop(ended);
                     Ok(())
                 }
             }
             None => {
-                drop(valid);
-                drop(r);
+                drop(ended);
                 Ok(())
             }
         }
@@ -359,16 +361,14 @@ impl Made {
         alloc: Global,
         here: &Here<'_>,
         state: &[u8],
-        valid: Expr,
-        r: Option<Expr>,
+        ended: Ended,
     ) -> Result<(), AllocError>
-        ensures { OnOk result (view_made self.new ≡ definition.end_made (view_here here.now) (view_made self.old) state.now (view_expr valid) (option_map view_expr r) (option_map view_head here.now.head)) }
+        ensures { OnOk result (view_made self.new ≡ definition.end_made (view_here here.now) (view_made self.old) state.now (view_expr ended.valid) (option_map view_expr ended.result) (option_map view_head here.now.head)) }
     {
         match &here.head {
-            Some(head) => self.add_headed(alloc, here, state, head, valid, r),
+            Some(head) => self.add_headed(alloc, here, state, head, ended),
             None => {
-                drop(valid);
-                drop(r);
+                drop(ended);
                 Ok(())
             }
         }
@@ -386,8 +386,8 @@ impl Made {
         ensures { Makes result (view_made self.new) (definition.ended (view_here here.now) (view_made self.old) (view_raw e.now) state.now (option_map view_raw r.now)) }
     {
         let valid = take_alone(alloc, &here.scope, Kind::Truth, e)?;
-        let r = result_made(alloc, here, r)?;
-        self.add_end(alloc, here, state, valid, r)?;
+        let result = result_made(alloc, here, r)?;
+        self.add_end(alloc, here, state, Ended { valid, result })?;
         Ok(())
     }
 }
