@@ -1,11 +1,12 @@
 -- The indices of the code as a list of pairs.
-use Rattle.std.proofs.Common.{◌≡◌, ℕ, List, [], ◌∷◌, map, refl, ap}
-use Rattle.ir_ast.specs.View.{view_type, view_operand, view_indices}
-use Rattle.ir_ast.specs.Plain.{Ty, Val}
+use Rattle.std.proofs.Common.{◌≡◌, ◌∙◌, ℕ, Option, Some, Result, Ok, Err, List, [], ◌∷◌, map, refl, ap}
+use Rattle.ir_ast.specs.View.{view_indices}
 use Rattle.ir_ast.specs.ProgramView.{view_typed}
 use Rattle.ir_ast.specs.declared.types.IrType.{IrType}
 use Rattle.ir_ast.specs.declared.operand.Operand.{Operand}
 use Rattle.ir_lex.specs.Tok.{Tok}
+use Rattle.ir_part.specs.declared.stop.PartStop.{PartStop}
+use Rattle.ir_part.specs.Reader.{Gives}
 use Rattle.ir_part.specs.Operands.{indices_from}
 use Rattle.ir_part.proofs.OperandSteps as steps
 
@@ -16,12 +17,7 @@ pub same_items : {A : Type 0} (xs : List A) → map (λ (x : A). x) xs ≡ xs
 same_items [] = refl
 same_items (x ∷ xs) = ap (λ ys. x ∷ ys) (same_items xs)
 
--- what is read, and the tokens behind it
-abbrev pub front_pair : {A : Type 0} → A → List Tok → A × List Tok
-front_pair a ts = (a, ts)
-
-abbrev pub typed_view : IrType × Operand → Ty × Val
-typed_view p = (view_type p.0, view_operand p.1)
-
-abbrev pub arm_view : Operand × List ℕ → Val × List ℕ
-arm_view p = (view_operand p.0, p.1)
+-- what is read as it stands
+pub same_read : {R A : Type 0} (f : R → List A) (g : R → List Tok) (r : Result R PartStop) (read : Option (List A × List Tok)) → Gives (λ x. (map (λ (y : A). y) (f x), g x)) r read → Gives (λ x. (f x, g x)) r read
+same_read f g (Ok a) read is = is ∙ ap (λ ys. Some (ys, g a)) (same_items (f a))
+same_read f g (Err why) read is = is

@@ -11,6 +11,7 @@ ghost use Rattle.ir_body.specs.Parts as definition;
 use crate::part::width_value_at;
 use ir_ast::{IrType, Name, Operand};
 use ir_lex::Token;
+use ir_part::many::{Element, elements_at};
 use ir_part::{
     PartStop, after_mark, begins_mark, is_bit, label_at, local_at, number_at, operand_at,
     strip_mark, type_at, typed_at, width_at,
@@ -29,6 +30,53 @@ pub fn arms_at<'t>(
     Ok(((over, arms), rest))
 }
 
+/// The arms of a phi, at `i1` or not, up to the end.
+#[derive(Drop)]
+struct Arms {
+    bit: bool,
+}
+
+impl Element for Arms {
+    ghost use Rattle.std.specs.Prelude.{List, ℕ};
+    ghost use Rattle.ir_ast.specs.View.{view_operand};
+    ghost use Rattle.ir_ast.specs.Plain.{Val};
+    ghost use Rattle.ir_part.specs.Many.{is_ended, behind_comma};
+    ghost use Rattle.ir_body.specs.Parts.{arm_at};
+
+    type Item = (Operand, Name);
+
+    ghost Seen = { Val × List ℕ };
+
+    ghost view = { λ p. (view_operand p.0, p.1) };
+
+    ghost stops = { λ _. is_ended };
+
+    ghost first_reads = { λ s. arm_at s.bit };
+
+    ghost reads = { λ s. behind_comma (arm_at s.bit) };
+
+    fn is_end(&self, tokens: &[Token<'_>]) -> bool {
+        none_left(tokens)
+    }
+
+    fn first<'t>(
+        &self,
+        alloc: Global,
+        tokens: &'t [Token<'t>],
+    ) -> Result<((Operand, Name), &'t [Token<'t>]), PartStop> {
+        arm_at(alloc, self.bit, tokens)
+    }
+
+    fn further<'t>(
+        &self,
+        alloc: Global,
+        tokens: &'t [Token<'t>],
+    ) -> Result<((Operand, Name), &'t [Token<'t>]), PartStop> {
+        let rest = after_mark(b',', tokens)?;
+        arm_at(alloc, self.bit, rest)
+    }
+}
+
 /// `[ V , %b ] , ..` up to the end, at `i1` or not.
 fn some_arms<'t>(
     alloc: Global,
@@ -37,20 +85,7 @@ fn some_arms<'t>(
 ) -> Result<(Vec<(Operand, Name)>, &'t [Token<'t>]), PartStop>
     ensures { Gives (λ x. (view_arms x.0.items, seen x.1.now)) result (definition.some_arms bit (seen tokens.now)) }
 {
-    let (first, mut rest) = arm_at(alloc, bit, tokens)?;
-    let mut arms = Vec::new(alloc);
-    arms.push(first)?;
-    let most = rest.len() + 1;
-    'more: for _ in 0..most {
-        if none_left(rest) {
-            return Ok((arms, rest));
-        }
-        let after_comma = after_mark(b',', rest)?;
-        let (arm, after) = arm_at(alloc, bit, after_comma)?;
-        arms.push(arm)?;
-        rest = after;
-    }
-    Err(PartStop::NotSpelled)
+    elements_at(alloc, &Arms { bit }, tokens)
 }
 
 /// Whether no token is left.
@@ -76,6 +111,49 @@ fn arm_at<'t>(
     Ok(((value, block), rest))
 }
 
+/// The indices of an address, up to the end.
+#[derive(Drop)]
+struct Offsets;
+
+impl Element for Offsets {
+    ghost use Rattle.ir_ast.specs.View.{view_type, view_operand};
+    ghost use Rattle.ir_ast.specs.Plain.{Ty, Val};
+    ghost use Rattle.ir_part.specs.Many.{is_ended};
+    ghost use Rattle.ir_body.specs.Parts.{offset_at};
+
+    type Item = (IrType, Operand);
+
+    ghost Seen = { Ty × Val };
+
+    ghost view = { λ p. (view_type p.0, view_operand p.1) };
+
+    ghost stops = { λ _. is_ended };
+
+    ghost first_reads = { λ _. offset_at };
+
+    ghost reads = { λ _. offset_at };
+
+    fn is_end(&self, tokens: &[Token<'_>]) -> bool {
+        none_left(tokens)
+    }
+
+    fn first<'t>(
+        &self,
+        alloc: Global,
+        tokens: &'t [Token<'t>],
+    ) -> Result<((IrType, Operand), &'t [Token<'t>]), PartStop> {
+        offset_at(alloc, tokens)
+    }
+
+    fn further<'t>(
+        &self,
+        alloc: Global,
+        tokens: &'t [Token<'t>],
+    ) -> Result<((IrType, Operand), &'t [Token<'t>]), PartStop> {
+        offset_at(alloc, tokens)
+    }
+}
+
 /// `, iN V , ..` up to the end.
 pub fn some_offsets<'t>(
     alloc: Global,
@@ -83,19 +161,7 @@ pub fn some_offsets<'t>(
 ) -> Result<(Vec<(IrType, Operand)>, &'t [Token<'t>]), PartStop>
     ensures { Gives (λ x. (view_typed x.0.items, seen x.1.now)) result (definition.some_offsets (seen tokens.now)) }
 {
-    let (first, mut rest) = offset_at(alloc, tokens)?;
-    let mut offsets = Vec::new(alloc);
-    offsets.push(first)?;
-    let most = rest.len() + 1;
-    'more: for _ in 0..most {
-        if none_left(rest) {
-            return Ok((offsets, rest));
-        }
-        let (offset, after) = offset_at(alloc, rest)?;
-        offsets.push(offset)?;
-        rest = after;
-    }
-    Err(PartStop::NotSpelled)
+    elements_at(alloc, &Offsets, tokens)
 }
 
 /// `, iN V`
@@ -138,6 +204,50 @@ fn arguments_up_to<'t>(
     }
 }
 
+/// The arguments of a call, up to a `)`.
+#[derive(Drop)]
+struct Arguments;
+
+impl Element for Arguments {
+    ghost use Rattle.ir_ast.specs.View.{view_type, view_operand};
+    ghost use Rattle.ir_ast.specs.Plain.{Ty, Val};
+    ghost use Rattle.ir_part.specs.Many.{is_closed, behind_comma};
+    ghost use Rattle.ir_part.specs.Operands.{typed_at};
+
+    type Item = (IrType, Operand);
+
+    ghost Seen = { Ty × Val };
+
+    ghost view = { λ p. (view_type p.0, view_operand p.1) };
+
+    ghost stops = { λ _. is_closed 41 };
+
+    ghost first_reads = { λ _. typed_at };
+
+    ghost reads = { λ _. behind_comma typed_at };
+
+    fn is_end(&self, tokens: &[Token<'_>]) -> bool {
+        begins_mark(b')', tokens)
+    }
+
+    fn first<'t>(
+        &self,
+        alloc: Global,
+        tokens: &'t [Token<'t>],
+    ) -> Result<((IrType, Operand), &'t [Token<'t>]), PartStop> {
+        typed_at(alloc, tokens)
+    }
+
+    fn further<'t>(
+        &self,
+        alloc: Global,
+        tokens: &'t [Token<'t>],
+    ) -> Result<((IrType, Operand), &'t [Token<'t>]), PartStop> {
+        let rest = after_mark(b',', tokens)?;
+        typed_at(alloc, rest)
+    }
+}
+
 /// `T V , ..` up to a `)`.
 fn some_arguments<'t>(
     alloc: Global,
@@ -145,20 +255,7 @@ fn some_arguments<'t>(
 ) -> Result<(Vec<(IrType, Operand)>, &'t [Token<'t>]), PartStop>
     ensures { Gives (λ x. (view_typed x.0.items, seen x.1.now)) result (some (is_closed 41) typed_at (behind_comma typed_at) (seen tokens.now)) }
 {
-    let (first, mut rest) = typed_at(alloc, tokens)?;
-    let mut arguments = Vec::new(alloc);
-    arguments.push(first)?;
-    let most = rest.len() + 1;
-    'more: for _ in 0..most {
-        if begins_mark(b')', rest) {
-            return Ok((arguments, rest));
-        }
-        let after_comma = after_mark(b',', rest)?;
-        let (argument, after) = typed_at(alloc, after_comma)?;
-        arguments.push(argument)?;
-        rest = after;
-    }
-    Err(PartStop::NotSpelled)
+    elements_at(alloc, &Arguments, tokens)
 }
 
 /// `iN V , L [`: the width in bits, the operand and the block of all other values.
@@ -190,6 +287,50 @@ pub fn cases_at<'t>(
     }
 }
 
+/// The cases of a switch, all of this width, up to a `]`.
+#[derive(Drop)]
+struct Cases {
+    width: u32,
+}
+
+impl Element for Cases {
+    ghost use Rattle.std.specs.Prelude.{List, ℕ, ℤ};
+    ghost use Rattle.ir_part.specs.Many.{is_closed};
+    ghost use Rattle.ir_body.specs.Parts.{case_at};
+
+    type Item = (i128, Name);
+
+    ghost Seen = { ℤ × List ℕ };
+
+    ghost view = { λ p. p };
+
+    ghost stops = { λ _. is_closed 93 };
+
+    ghost first_reads = { λ s. case_at s.width };
+
+    ghost reads = { λ s. case_at s.width };
+
+    fn is_end(&self, tokens: &[Token<'_>]) -> bool {
+        begins_mark(b']', tokens)
+    }
+
+    fn first<'t>(
+        &self,
+        alloc: Global,
+        tokens: &'t [Token<'t>],
+    ) -> Result<((i128, Name), &'t [Token<'t>]), PartStop> {
+        case_at(alloc, self.width, tokens)
+    }
+
+    fn further<'t>(
+        &self,
+        alloc: Global,
+        tokens: &'t [Token<'t>],
+    ) -> Result<((i128, Name), &'t [Token<'t>]), PartStop> {
+        case_at(alloc, self.width, tokens)
+    }
+}
+
 /// `iN number , L ..` up to a `]`, all of this width.
 fn some_cases<'t>(
     alloc: Global,
@@ -198,19 +339,7 @@ fn some_cases<'t>(
 ) -> Result<(Vec<(i128, Name)>, &'t [Token<'t>]), PartStop>
     ensures { Gives (λ x. (x.0.items, seen x.1.now)) result (definition.some_cases width (seen tokens.now)) }
 {
-    let (first, mut rest) = case_at(alloc, width, tokens)?;
-    let mut cases = Vec::new(alloc);
-    cases.push(first)?;
-    let most = rest.len() + 1;
-    'more: for _ in 0..most {
-        if begins_mark(b']', rest) {
-            return Ok((cases, rest));
-        }
-        let (case, after) = case_at(alloc, width, rest)?;
-        cases.push(case)?;
-        rest = after;
-    }
-    Err(PartStop::NotSpelled)
+    elements_at(alloc, &Cases { width }, tokens)
 }
 
 /// `iN number , L`, of this width.

@@ -7,6 +7,7 @@
 
 pub mod front;
 pub mod laws;
+pub mod many;
 pub mod number;
 pub mod operand;
 pub mod same;

@@ -10,6 +10,7 @@ ghost use Rattle.ir_part.specs.Operands as definition;
 ghost use Rattle.ir_part.specs.Operands.{operand_within};
 
 use crate::front::{after_mark, after_word, begins_mark, flag_at};
+use crate::many::{Element, elements_at};
 use crate::number::{number_at, number_of, width_at};
 use crate::stop::PartStop;
 use crate::types::type_at;
@@ -227,6 +228,49 @@ pub fn inbounds_only(inbounds: bool) -> Flags
     }
 }
 
+/// The indices of a constant address, up to a `)`.
+#[derive(Drop)]
+struct NumberIndices;
+
+impl Element for NumberIndices {
+    ghost use Rattle.ir_ast.specs.View.{view_type, view_operand};
+    ghost use Rattle.ir_ast.specs.Plain.{Ty, Val};
+    ghost use Rattle.ir_part.specs.Many.{is_closed};
+    ghost use Rattle.ir_part.specs.Operands.{number_index};
+
+    type Item = (IrType, Operand);
+
+    ghost Seen = { Ty × Val };
+
+    ghost view = { λ p. (view_type p.0, view_operand p.1) };
+
+    ghost stops = { λ _. is_closed 41 };
+
+    ghost first_reads = { λ _. number_index };
+
+    ghost reads = { λ _. number_index };
+
+    fn is_end(&self, tokens: &[Token<'_>]) -> bool {
+        begins_mark(b')', tokens)
+    }
+
+    fn first<'t>(
+        &self,
+        _alloc: Global,
+        tokens: &'t [Token<'t>],
+    ) -> Result<((IrType, Operand), &'t [Token<'t>]), PartStop> {
+        number_index(tokens)
+    }
+
+    fn further<'t>(
+        &self,
+        _alloc: Global,
+        tokens: &'t [Token<'t>],
+    ) -> Result<((IrType, Operand), &'t [Token<'t>]), PartStop> {
+        number_index(tokens)
+    }
+}
+
 /// `, iN number , ..` up to a `)`.
 fn number_indices<'t>(
     alloc: Global,
@@ -234,19 +278,7 @@ fn number_indices<'t>(
 ) -> Result<(Vec<(IrType, Operand)>, &'t [Token<'t>]), PartStop>
     ensures { Gives (λ x. (view_typed x.0.items, seen x.1.now)) result (some (is_closed 41) definition.number_index definition.number_index (seen tokens.now)) }
 {
-    let (first, mut rest) = number_index(tokens)?;
-    let mut indices = Vec::new(alloc);
-    indices.push(first)?;
-    let most = rest.len() + 1;
-    'more: for _ in 0..most {
-        if begins_mark(b')', rest) {
-            return Ok((indices, rest));
-        }
-        let (index, after) = number_index(rest)?;
-        indices.push(index)?;
-        rest = after;
-    }
-    Err(PartStop::NotSpelled)
+    elements_at(alloc, &NumberIndices, tokens)
 }
 
 /// `, iN number`

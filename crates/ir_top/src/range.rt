@@ -12,6 +12,7 @@ use ir_ast::{IrType, Name, TypedNumberList};
 use ir_lex::name::behind_first;
 use ir_lex::{Token, TokenKind};
 use ir_part::front::strip_mark;
+use ir_part::many::{Element, elements_at};
 use ir_part::number::are_digits;
 use ir_part::{PartStop, after_mark, begins_mark, end, number_at, type_at};
 use std::alloc::{AllocError, Global};
@@ -112,6 +113,51 @@ fn numbers_at<'t>(
     }
 }
 
+/// The numbers of a range with their types, up to a `}`.
+#[derive(Drop)]
+struct Numbers;
+
+impl Element for Numbers {
+    ghost use Rattle.std.specs.Prelude.{ℤ};
+    ghost use Rattle.ir_ast.specs.View.{view_type};
+    ghost use Rattle.ir_ast.specs.Plain.{Ty};
+    ghost use Rattle.ir_part.specs.Many.{is_closed, behind_comma};
+    ghost use Rattle.ir_top.specs.Tops.{typed_number_at};
+
+    type Item = (IrType, i128);
+
+    ghost Seen = { Ty × ℤ };
+
+    ghost view = { λ p. (view_type p.0, p.1) };
+
+    ghost stops = { λ _. is_closed 125 };
+
+    ghost first_reads = { λ _. typed_number_at };
+
+    ghost reads = { λ _. behind_comma typed_number_at };
+
+    fn is_end(&self, tokens: &[Token<'_>]) -> bool {
+        begins_mark(b'}', tokens)
+    }
+
+    fn first<'t>(
+        &self,
+        alloc: Global,
+        tokens: &'t [Token<'t>],
+    ) -> Result<((IrType, i128), &'t [Token<'t>]), PartStop> {
+        typed_number_at(alloc, tokens)
+    }
+
+    fn further<'t>(
+        &self,
+        alloc: Global,
+        tokens: &'t [Token<'t>],
+    ) -> Result<((IrType, i128), &'t [Token<'t>]), PartStop> {
+        let rest = after_mark(b',', tokens)?;
+        typed_number_at(alloc, rest)
+    }
+}
+
 /// `T n , ..` up to a `}`.
 fn some_numbers<'t>(
     alloc: Global,
@@ -119,20 +165,7 @@ fn some_numbers<'t>(
 ) -> Result<(Vec<(IrType, i128)>, &'t [Token<'t>]), PartStop>
     ensures { Gives (λ x. (view_numbers x.0.items, seen x.1.now)) result (some (is_closed 125) definition.typed_number_at (behind_comma definition.typed_number_at) (seen tokens.now)) }
 {
-    let (first, mut rest) = typed_number_at(alloc, tokens)?;
-    let mut numbers = Vec::new(alloc);
-    numbers.push(first)?;
-    let most = rest.len() + 1;
-    'more: for _ in 0..most {
-        if begins_mark(b'}', rest) {
-            return Ok((numbers, rest));
-        }
-        let after_comma = after_mark(b',', rest)?;
-        let (number, after) = typed_number_at(alloc, after_comma)?;
-        numbers.push(number)?;
-        rest = after;
-    }
-    Err(PartStop::NotSpelled)
+    elements_at(alloc, &Numbers, tokens)
 }
 
 /// `T n`
