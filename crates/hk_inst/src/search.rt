@@ -54,32 +54,47 @@ fn goes_on(effort: &mut Effort, found: &InstanceList) -> bool
     true
 }
 
-// What is looked for: tuples of the quantifier of this number, at which this term, its body, is false.
+// What is looked for: tuples of the quantifier of this number, at which this term of a question, its body, is false.
 #[derive(Drop)]
-struct Wanted {
+struct Wanted<'a> {
+    s: &'a State,
     quantifier: u64,
     body: TermId,
+}
+
+// The variables that are bound from here on: the first, and the rest.
+#[derive(Drop)]
+struct Bounds<'a> {
+    first: &'a Bound,
+    rest: &'a [Bound],
+}
+
+// How far a search has come: the first numbers of a tuple, what was found, and how far it goes on.
+#[derive(Drop)]
+struct Progress {
+    tuple: Vec<u64>,
+    found: InstanceList,
+    effort: Effort,
 }
 
 // One tuple is tried: where the body is false, and it was not added, it comes behind what was found.
 fn try_tuple(
     alloc: Global,
-    s: &State,
-    wanted: &Wanted,
+    wanted: &Wanted<'_>,
     tuple: &[u64],
     case: &Valuation,
     room: &mut ValueRoom,
     found: &mut InstanceList,
 ) -> Result<(), AllocError>
-    requires body { wanted.now.body < length s.now.terms }
-    requires room { length room.old ≡ length s.now.terms }
-    ensures room { length room.new ≡ length s.now.terms }
+    requires body { wanted.now.body < length wanted.now.s.now.terms }
+    requires room { length room.old ≡ length wanted.now.s.now.terms }
+    ensures room { length room.new ≡ length wanted.now.s.now.terms }
     ensures kept { found.new ≡ [] → found.old ≡ [] }
-    ensures tried { OnOk result (found.new ≡ [] → is_among s.now.instances (Instance.Tuple wanted.now.quantifier tuple.now) ≡ false → value s.now.terms wanted.now.body (reading_of case.now) ≡ 1) }
-    ensures found { OnOk result ((f : ℕ → ℕ) (r : Reading) → (is_among s.now.instances (Instance.Tuple wanted.now.quantifier tuple.now) ≡ false → (value s.now.terms wanted.now.body (reading_of case.now) ≡ 1 → ⊥) → IsViolated (asked_of s.now) f r (Instance.Tuple wanted.now.quantifier tuple.now)) → All (IsViolated (asked_of s.now) f r) found.old → All (IsViolated (asked_of s.now) f r) found.new) }
+    ensures tried { OnOk result (found.new ≡ [] → is_among wanted.now.s.now.instances (Instance.Tuple wanted.now.quantifier tuple.now) ≡ false → value wanted.now.s.now.terms wanted.now.body (reading_of case.now) ≡ 1) }
+    ensures found { OnOk result ((f : ℕ → ℕ) (r : Reading) → (is_among wanted.now.s.now.instances (Instance.Tuple wanted.now.quantifier tuple.now) ≡ false → (value wanted.now.s.now.terms wanted.now.body (reading_of case.now) ≡ 1 → ⊥) → IsViolated (asked_of wanted.now.s.now) f r (Instance.Tuple wanted.now.quantifier tuple.now)) → All (IsViolated (asked_of wanted.now.s.now) f r) found.old → All (IsViolated (asked_of wanted.now.s.now) f r) found.new) }
 {
     room.begin();
-    if s.terms.value_with(case, wanted.body, room) == 1 {
+    if wanted.s.terms.value_with(case, wanted.body, room) == 1 {
         return Ok(());
     }
     let indices = SizeList::from_vec(tuple.to_vec(alloc)?);
@@ -87,7 +102,7 @@ fn try_tuple(
         quantifier: wanted.quantifier,
         indices,
     };
-    if !s.instances.contains(&instance) {
+    if !wanted.s.instances.contains(&instance) {
         found.push(instance)?;
     }
     Ok(())
@@ -98,34 +113,31 @@ fn try_tuple(
 #[cycle(searching)]
 fn at_number(
     alloc: Global,
-    s: &State,
-    wanted: &Wanted,
-    first: &Bound,
+    wanted: &Wanted<'_>,
+    bounds: &Bounds<'_>,
     number: u64,
-    rest: &[Bound],
-    tuple: &mut Vec<u64>,
     case: &mut Valuation,
     room: &mut ValueRoom,
-    found: &mut InstanceList,
-    effort: &mut Effort,
+    progress: &mut Progress,
 ) -> Result<bool, AllocError>
-    requires body { wanted.now.body < length s.now.terms }
-    requires number { number < first.now.size }
-    requires room { length room.old ≡ length s.now.terms }
-    ensures room { length room.new ≡ length s.now.terms }
+    requires body { wanted.now.body < length wanted.now.s.now.terms }
+    requires number { number < bounds.now.first.now.size }
+    requires room { length room.old ≡ length wanted.now.s.now.terms }
+    ensures room { length room.new ≡ length wanted.now.s.now.terms }
     ensures case { OnOk result (reading_of case.new ≡ reading_of case.old) }
-    ensures tuple { OnOk result (tuple.new.items ≡ tuple.old.items) }
-    ensures kept { found.new ≡ [] → found.old ≡ [] }
-    ensures stops { IfOk result (λ goes_on. goes_on ≡ false → found.new ≢ []) }
-    ensures tried { OnOk result (found.new ≡ [] → AllTried s.now.terms s.now.instances wanted.now.quantifier wanted.now.body rest.now (tuple.old.items ++ number ∷ []) (with_var (reading_of case.old) first.now.id number)) }
-    ensures found { OnOk result ((f : ℕ → ℕ) (r : Reading) → IsSearch (asked_of s.now) f r wanted.now.quantifier wanted.now.body (first.now ∷ rest.now) tuple.old.items (reading_of case.old) → All (IsViolated (asked_of s.now) f r) found.old → All (IsViolated (asked_of s.now) f r) found.new) }
+    ensures tuple { OnOk result (progress.new.tuple.items ≡ progress.old.tuple.items) }
+    ensures kept { progress.new.found ≡ [] → progress.old.found ≡ [] }
+    ensures stops { IfOk result (λ goes_on. goes_on ≡ false → progress.new.found ≢ []) }
+    ensures tried { OnOk result (progress.new.found ≡ [] → AllTried wanted.now.s.now.terms wanted.now.s.now.instances wanted.now.quantifier wanted.now.body bounds.now.rest.now (progress.old.tuple.items ++ number ∷ []) (with_var (reading_of case.old) bounds.now.first.now.id number)) }
+    ensures found { OnOk result ((f : ℕ → ℕ) (r : Reading) → IsSearch (asked_of wanted.now.s.now) f r wanted.now.quantifier wanted.now.body (bounds.now.first.now ∷ bounds.now.rest.now) progress.old.tuple.items (reading_of case.old) → All (IsViolated (asked_of wanted.now.s.now) f r) progress.old.found → All (IsViolated (asked_of wanted.now.s.now) f r) progress.new.found) }
 {
-    let before = case.vars.get(first.id);
-    case.vars.set(first.id, number)?;
-    tuple.push(number)?;
-    let goes_on = search(alloc, s, wanted, rest, tuple, case, room, found, effort)?;
-    tuple.pop();
-    case.vars.set(first.id, before)?;
+    let id = bounds.first.id;
+    let before = case.vars.get(id);
+    case.vars.set(id, number)?;
+    progress.tuple.push(number)?;
+    let goes_on = search(alloc, wanted, bounds.rest, case, room, progress)?;
+    progress.tuple.pop();
+    case.vars.set(id, before)?;
     Ok(goes_on)
 }
 
@@ -134,30 +146,24 @@ fn at_number(
 #[cycle(searching)]
 fn each_number(
     alloc: Global,
-    s: &State,
-    wanted: &Wanted,
-    first: &Bound,
-    rest: &[Bound],
-    tuple: &mut Vec<u64>,
+    wanted: &Wanted<'_>,
+    bounds: &Bounds<'_>,
     case: &mut Valuation,
     room: &mut ValueRoom,
-    found: &mut InstanceList,
-    effort: &mut Effort,
+    progress: &mut Progress,
 ) -> Result<bool, AllocError>
-    requires body { wanted.now.body < length s.now.terms }
-    requires room { length room.old ≡ length s.now.terms }
-    ensures room { length room.new ≡ length s.now.terms }
+    requires body { wanted.now.body < length wanted.now.s.now.terms }
+    requires room { length room.old ≡ length wanted.now.s.now.terms }
+    ensures room { length room.new ≡ length wanted.now.s.now.terms }
     ensures case { OnOk result (reading_of case.new ≡ reading_of case.old) }
-    ensures tuple { OnOk result (tuple.new.items ≡ tuple.old.items) }
-    ensures kept { found.new ≡ [] → found.old ≡ [] }
-    ensures stops { IfOk result (λ goes_on. goes_on ≡ false → found.new ≢ []) }
-    ensures tried { OnOk result (found.new ≡ [] → (n : ℕ) → n < first.now.size → AllTried s.now.terms s.now.instances wanted.now.quantifier wanted.now.body rest.now (tuple.old.items ++ n ∷ []) (with_var (reading_of case.old) first.now.id n)) }
-    ensures found { OnOk result ((f : ℕ → ℕ) (r : Reading) → IsSearch (asked_of s.now) f r wanted.now.quantifier wanted.now.body (first.now ∷ rest.now) tuple.old.items (reading_of case.old) → All (IsViolated (asked_of s.now) f r) found.old → All (IsViolated (asked_of s.now) f r) found.new) }
+    ensures tuple { OnOk result (progress.new.tuple.items ≡ progress.old.tuple.items) }
+    ensures kept { progress.new.found ≡ [] → progress.old.found ≡ [] }
+    ensures stops { IfOk result (λ goes_on. goes_on ≡ false → progress.new.found ≢ []) }
+    ensures tried { OnOk result (progress.new.found ≡ [] → (n : ℕ) → n < bounds.now.first.now.size → AllTried wanted.now.s.now.terms wanted.now.s.now.instances wanted.now.quantifier wanted.now.body bounds.now.rest.now (progress.old.tuple.items ++ n ∷ []) (with_var (reading_of case.old) bounds.now.first.now.id n)) }
+    ensures found { OnOk result ((f : ℕ → ℕ) (r : Reading) → IsSearch (asked_of wanted.now.s.now) f r wanted.now.quantifier wanted.now.body (bounds.now.first.now ∷ bounds.now.rest.now) progress.old.tuple.items (reading_of case.old) → All (IsViolated (asked_of wanted.now.s.now) f r) progress.old.found → All (IsViolated (asked_of wanted.now.s.now) f r) progress.new.found) }
 {
-    for number in 0..first.size {
-        let goes_on = at_number(
-            alloc, s, wanted, first, number, rest, tuple, case, room, found, effort,
-        )?;
+    for number in 0..bounds.first.size {
+        let goes_on = at_number(alloc, wanted, bounds, number, case, room, progress)?;
         if !goes_on {
             return Ok(false);
         }
@@ -169,33 +175,38 @@ fn each_number(
 #[cycle(searching)]
 fn search(
     alloc: Global,
-    s: &State,
-    wanted: &Wanted,
+    wanted: &Wanted<'_>,
     bound: &[Bound],
-    tuple: &mut Vec<u64>,
     case: &mut Valuation,
     room: &mut ValueRoom,
-    found: &mut InstanceList,
-    effort: &mut Effort,
+    progress: &mut Progress,
 ) -> Result<bool, AllocError>
-    requires body { wanted.now.body < length s.now.terms }
-    requires room { length room.old ≡ length s.now.terms }
-    ensures room { length room.new ≡ length s.now.terms }
+    requires body { wanted.now.body < length wanted.now.s.now.terms }
+    requires room { length room.old ≡ length wanted.now.s.now.terms }
+    ensures room { length room.new ≡ length wanted.now.s.now.terms }
     ensures case { OnOk result (reading_of case.new ≡ reading_of case.old) }
-    ensures tuple { OnOk result (tuple.new.items ≡ tuple.old.items) }
-    ensures kept { found.new ≡ [] → found.old ≡ [] }
-    ensures stops { IfOk result (λ goes_on. goes_on ≡ false → found.new ≢ []) }
-    ensures tried { OnOk result (found.new ≡ [] → AllTried s.now.terms s.now.instances wanted.now.quantifier wanted.now.body bound.now tuple.old.items (reading_of case.old)) }
-    ensures found { OnOk result ((f : ℕ → ℕ) (r : Reading) → IsSearch (asked_of s.now) f r wanted.now.quantifier wanted.now.body bound.now tuple.old.items (reading_of case.old) → All (IsViolated (asked_of s.now) f r) found.old → All (IsViolated (asked_of s.now) f r) found.new) }
+    ensures tuple { OnOk result (progress.new.tuple.items ≡ progress.old.tuple.items) }
+    ensures kept { progress.new.found ≡ [] → progress.old.found ≡ [] }
+    ensures stops { IfOk result (λ goes_on. goes_on ≡ false → progress.new.found ≢ []) }
+    ensures tried { OnOk result (progress.new.found ≡ [] → AllTried wanted.now.s.now.terms wanted.now.s.now.instances wanted.now.quantifier wanted.now.body bound.now progress.old.tuple.items (reading_of case.old)) }
+    ensures found { OnOk result ((f : ℕ → ℕ) (r : Reading) → IsSearch (asked_of wanted.now.s.now) f r wanted.now.quantifier wanted.now.body bound.now progress.old.tuple.items (reading_of case.old) → All (IsViolated (asked_of wanted.now.s.now) f r) progress.old.found → All (IsViolated (asked_of wanted.now.s.now) f r) progress.new.found) }
 {
     match bound {
         [] => {
-            try_tuple(alloc, s, wanted, tuple, case, room, found)?;
-            Ok(goes_on(effort, found))
+            try_tuple(
+                alloc,
+                wanted,
+                &progress.tuple,
+                case,
+                room,
+                &mut progress.found,
+            )?;
+            Ok(goes_on(&mut progress.effort, &progress.found))
         }
-        [first, rest @ ..] => each_number(
-            alloc, s, wanted, first, rest, tuple, case, room, found, effort,
-        ),
+        [first, rest @ ..] => {
+            let bounds = Bounds { first, rest };
+            each_number(alloc, wanted, &bounds, case, room, progress)
+        }
     }
 }
 
@@ -207,7 +218,7 @@ fn search_in(
     k: u64,
     case: &mut Valuation,
     room: &mut ValueRoom,
-    found: &mut InstanceList,
+    progress: &mut Progress,
 ) -> Result<(), AllocError>
     requires fit { AllFitIn (reverse s.now.terms) }
     requires there { All (λ t. t < length s.now.terms) s.now.quantifiers.items }
@@ -216,9 +227,9 @@ fn search_in(
     requires room { length room.old ≡ length s.now.terms }
     ensures room { length room.new ≡ length s.now.terms }
     ensures case { OnOk result (reading_of case.new ≡ reading_of case.old) }
-    ensures kept { found.new ≡ [] → found.old ≡ [] }
-    ensures tried { OnOk result (found.new ≡ [] → (ks : List ℕ) → is_among s.now.instances (Instance.Tuple k ks) ≡ false → IsTrue (asked_of s.now).nodes (asked_of s.now).table (number_in s.now.bits values.now) (reading_of case.old) (Instance.Tuple k ks)) }
-    ensures found { OnOk result (All (IsViolated (asked_of s.now) (number_in s.now.bits values.now) (reading_of case.old)) found.old → All (IsViolated (asked_of s.now) (number_in s.now.bits values.now) (reading_of case.old)) found.new) }
+    ensures kept { progress.new.found ≡ [] → progress.old.found ≡ [] }
+    ensures tried { OnOk result (progress.new.found ≡ [] → (ks : List ℕ) → is_among s.now.instances (Instance.Tuple k ks) ≡ false → IsTrue (asked_of s.now).nodes (asked_of s.now).table (number_in s.now.bits values.now) (reading_of case.old) (Instance.Tuple k ks)) }
+    ensures found { OnOk result (All (IsViolated (asked_of s.now) (number_in s.now.bits values.now) (reading_of case.old)) progress.old.found → All (IsViolated (asked_of s.now) (number_in s.now.bits values.now) (reading_of case.old)) progress.new.found) }
 {
     let Some(place) = quantifier_at(&s.terms, s.quantifiers.as_slice(), k) else {
         return Ok(());
@@ -227,22 +238,13 @@ fn search_in(
         return Ok(());
     }
     let wanted = Wanted {
+        s,
         quantifier: k,
         body: place.2,
     };
-    let mut tuple = Vec::new(alloc);
-    let mut effort = effort_behind(found);
-    search(
-        alloc,
-        s,
-        &wanted,
-        place.1.as_slice(),
-        &mut tuple,
-        case,
-        room,
-        found,
-        &mut effort,
-    )?;
+    progress.tuple.clear();
+    progress.effort = effort_behind(&progress.found);
+    search(alloc, &wanted, place.1.as_slice(), case, room, progress)?;
     Ok(())
 }
 
@@ -264,9 +266,15 @@ pub(crate) fn search_all(
     ensures tried { IfOk result (λ l. l ≡ [] → (k : ℕ) → k < length s.now.quantifiers.items → (ks : List ℕ) → is_among s.now.instances (Instance.Tuple k ks) ≡ false → IsTrue (asked_of s.now).nodes (asked_of s.now).table (number_in s.now.bits values.now) (reading_of case.old) (Instance.Tuple k ks)) }
     ensures found { IfOk result (λ l. All (IsViolated (asked_of s.now) (number_in s.now.bits values.now) (reading_of case.old)) l) }
 {
-    let mut found = InstanceList::new(alloc);
+    let found = InstanceList::new(alloc);
+    let effort = effort_behind(&found);
+    let mut progress = Progress {
+        tuple: Vec::new(alloc),
+        found,
+        effort,
+    };
     for k in 0..s.quantifiers.len() {
-        search_in(alloc, s, values, k as u64, case, room, &mut found)?;
+        search_in(alloc, s, values, k as u64, case, room, &mut progress)?;
     }
-    Ok(found)
+    Ok(progress.found)
 }

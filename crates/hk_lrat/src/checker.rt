@@ -6,7 +6,7 @@ ghost use Rattle.hk_cnf.specs.Literal.{IsWithin};
 ghost use Rattle.hk_lrat.specs.Log.{State, start, row_fault, after_row, add_fault, delete_fault};
 ghost use Rattle.hk_lrat.specs.Room.{Checked, Fits, after_accepted, with_clause, without_clauses};
 
-use crate::hints::add_reason;
+use crate::hints::{Addition, Clauses, add_reason};
 use crate::log::{LratRow, RowReason};
 use crate::table::{Entry, are_live, kill_all};
 use hk_cnf::{ClauseList, Lit};
@@ -75,16 +75,18 @@ impl Checker {
         ensures same { self.new ≡ self.old }
         ensures few { self.old.state.vars < 2 ^ 63 }
     {
+        let clauses = Clauses {
+            vars: self.vars,
+            last: self.last,
+            table: self.table.as_slice(),
+            lits: self.lits.as_slice(),
+        };
+        let addition = Addition { id, clause, hints };
         add_reason(
-            self.vars,
-            self.last,
-            self.table.as_slice(),
-            self.lits.as_slice(),
+            &clauses,
+            &addition,
             self.marks.as_mut_slice(),
             &mut self.row,
-            id,
-            clause,
-            hints,
         )
     }
 

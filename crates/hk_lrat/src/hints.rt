@@ -44,32 +44,51 @@ fn hints_reason(
     Some(RowReason::L5)
 }
 
+/// The clauses that an addition is tried against: over so many variables, the last under this id.
+#[derive(Drop)]
+pub struct Clauses<'a> {
+    pub vars: u64,
+    pub last: u64,
+    pub table: &'a [Entry],
+    pub lits: &'a [Lit],
+}
+
+/// An addition: the id of its clause, the literals, and the hints.
+#[derive(Drop)]
+pub struct Addition<'a> {
+    pub id: u64,
+    pub clause: &'a [Lit],
+    pub hints: &'a [u64],
+}
+
 /// The first reason against an addition. The marks and their row number are for this function alone.
 pub fn add_reason(
-    vars: u64,
-    last: u64,
-    table: &[Entry],
-    lits: &[Lit],
+    clauses: &Clauses<'_>,
+    addition: &Addition<'_>,
     marks: &mut [u64],
     row: &mut u64,
-    id: u64,
-    clause: &[Lit],
-    hints: &[u64],
 ) -> Option<RowReason>
-    requires rising { IsRising table.now }
-    requires entries { All (IsEntry (length lits.now)) table.now }
-    requires lits { All (IsWithin vars) lits.now }
-    requires two_each { length marks.old ≡ 2 * vars }
+    requires rising { IsRising clauses.now.table.now }
+    requires entries { All (IsEntry (length clauses.now.lits.now)) clauses.now.table.now }
+    requires lits { All (IsWithin clauses.now.vars) clauses.now.lits.now }
+    requires two_each { length marks.old ≡ 2 * clauses.now.vars }
     requires none_later { All (λ m. m ≤ row.old) marks.old }
-    ensures reason { result ≡ add_fault (record { vars = vars; last = last; live = live_of lits.now table.now }) id clause.now hints.now }
+    ensures reason { result ≡ add_fault (record { vars = clauses.now.vars; last = clauses.now.last; live = live_of clauses.now.lits.now clauses.now.table.now }) addition.now.id addition.now.clause.now addition.now.hints.now }
     ensures none_later { All (λ m. m ≤ row.new) marks.new }
 {
     *row = next_row(marks, *row);
-    if !deny(vars, marks, *row, clause) {
+    if !deny(clauses.vars, marks, *row, addition.clause) {
         return Some(RowReason::L1);
     }
-    if id <= last {
+    if addition.id <= clauses.last {
         return Some(RowReason::L2);
     }
-    hints_reason(vars, table, lits, marks, *row, hints)
+    hints_reason(
+        clauses.vars,
+        clauses.table,
+        clauses.lits,
+        marks,
+        *row,
+        addition.hints,
+    )
 }

@@ -326,17 +326,12 @@ fn load<R: SymReads>(
     let index = step_indices(alloc, t, reads, names, &path.steps)?;
     let steps = path.steps.items.as_slice();
     let terms = index.as_slice();
-    let made = join::path(
-        alloc,
-        t,
-        reads,
-        names,
-        path.object,
-        path.base,
-        steps,
-        path.bytes,
-        terms,
-    )?;
+    let place = join::Place {
+        object: path.object,
+        base: path.base,
+        bytes: path.bytes,
+    };
+    let made = join::path(alloc, t, reads, names, &place, steps, terms)?;
     Ok(made)
 }
 

@@ -226,30 +226,36 @@ pub(crate) fn entry<R: SymReads>(
     Ok(made)
 }
 
+/// What a path reads: so many bytes of an object, from the bytes before its steps on.
+#[derive(Drop)]
+pub(crate) struct Place {
+    pub(crate) object: u32,
+    pub(crate) base: u64,
+    pub(crate) bytes: u32,
+}
+
 /// The number at a path.
 pub(crate) fn path<R: SymReads>(
     alloc: Global,
     t: &mut Terms,
     reads: &R,
     names: &Names,
-    object: u32,
-    base: u64,
+    place: &Place,
     steps: &[PathStep],
-    bytes: u32,
     index: &[Limit],
 ) -> Result<TermId, AllocError>
     requires over { R.is_over reads.now t.old }
     requires ready { Ready (R.named reads.now) (R.limit reads.now) t.old (scope_of names.now) }
-    requires sorted { IsSorted (context_of (R.named reads.now) (scope_of names.now)) (plain.path object base (view_steps steps.now) bytes) }
+    requires sorted { IsSorted (context_of (R.named reads.now) (scope_of names.now)) (plain.path place.now.object place.now.base (view_steps steps.now) place.now.bytes) }
     requires index { AreIndexed t.old (view_steps steps.now) index.now }
     ensures term { IfOk result (λ r. (first : Reading → Source) (old : List Node) → Lasts first old (R.source reads.now t.old) t.old (scope_of names.now) →
-        AreLimitsOf first (context_of (R.named reads.now) (scope_of names.now)) old (scope_of names.now) t.old index.now (step_trees (view_steps steps.now)) → IsTermOf first (context_of (R.named reads.now) (scope_of names.now)) old (scope_of names.now) t.new r (plain.path object base (view_steps steps.now) bytes)) }
+        AreLimitsOf first (context_of (R.named reads.now) (scope_of names.now)) old (scope_of names.now) t.old index.now (step_trees (view_steps steps.now)) → IsTermOf first (context_of (R.named reads.now) (scope_of names.now)) old (scope_of names.now) t.new r (plain.path place.now.object place.now.base (view_steps steps.now) place.now.bytes)) }
     ensures keeps { Keeps t.old t.new }
 {
     lasting(t, reads, names);
-    let lead = lead_of(t, base, steps, index)?;
+    let lead = lead_of(t, place.base, steps, index)?;
     // For the proof: the offset's number is below 2 to its width.
     let _offset = ops::sized(t, lead.offset);
-    let made = load_at(alloc, t, reads, object, bytes, lead)?;
+    let made = load_at(alloc, t, reads, place.object, place.bytes, lead)?;
     Ok(made)
 }

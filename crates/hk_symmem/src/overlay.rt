@@ -72,35 +72,41 @@ fn byte_behind(
     Ok(made)
 }
 
-// The bytes of a number at an offset behind a write, one more than those that were made.
+// A number as it was before a write, in so many bytes from an offset on.
+#[derive(Drop)]
+struct Before {
+    offset: TermId,
+    bytes: u32,
+    found: TermId,
+}
+
+// The bytes of a number behind a write, one more than those that were made.
 fn one_more(
     t: &mut Terms,
     w: &GuardedWrite,
-    offset: TermId,
+    before: &Before,
     byte: u32,
-    bytes: u32,
-    found: TermId,
     made: TermId,
 ) -> Result<TermId, AllocError>
     requires write { IsWriteOver t.old w.now }
-    requires offset { offset < length t.old }
-    requires address { width t.old offset ≡ 64 }
-    requires bytes { bytes ≤ 8 }
-    requires byte { byte < bytes }
-    requires found { found < length t.old }
-    requires number { width t.old found ≡ 8 * bytes }
+    requires offset { before.now.offset < length t.old }
+    requires address { width t.old before.now.offset ≡ 64 }
+    requires bytes { before.now.bytes ≤ 8 }
+    requires byte { byte < before.now.bytes }
+    requires found { before.now.found < length t.old }
+    requires number { width t.old before.now.found ≡ 8 * before.now.bytes }
     requires made { made < length t.old }
     requires part { width t.old made ≡ 8 * byte }
     ensures within { IfOk result (λ r. r < length t.new) }
     ensures width { IfOk result (λ r. width t.new r ≡ 8 * byte + 8) }
-    ensures value { IfOk result (λ r. (v : Reading) (b : List ℕ) → IsRead (value t.old offset v) bytes b (value t.old found v) → value t.old made v ≡ number_at byte (value t.old offset v) (after_write t.old v w.now b) → value t.new r v ≡ number_at (suc byte) (value t.old offset v) (after_write t.old v w.now b)) }
+    ensures value { IfOk result (λ r. (v : Reading) (b : List ℕ) → IsRead (value t.old before.now.offset v) before.now.bytes b (value t.old before.now.found v) → value t.old made v ≡ number_at byte (value t.old before.now.offset v) (after_write t.old v w.now b) → value t.new r v ≡ number_at (suc byte) (value t.old before.now.offset v) (after_write t.old v w.now b)) }
     ensures keeps_widths { (k : ℕ) → k < length t.old → width t.new k ≡ width t.old k }
     ensures keeps_values { (k : ℕ) → k < length t.old → (v : Reading) → value t.new k v ≡ value t.old k v }
     ensures longer { length t.old ≤ length t.new }
     ensures grows { Grows t.old t.new }
 {
-    let place = place_behind(t, offset, byte)?;
-    let part = byte_of(t, found, byte)?;
+    let place = place_behind(t, before.offset, byte)?;
+    let part = byte_of(t, before.found, byte)?;
     let high = byte_behind(t, w, place, part)?;
     let whole = above(t, high, made, byte)?;
     Ok(whole)
@@ -128,10 +134,15 @@ pub(crate) fn number_behind(
     ensures longer { length t.old ≤ length t.new }
     ensures grows { Grows t.old t.new }
 {
+    let before = Before {
+        offset,
+        bytes,
+        found,
+    };
     let low = byte_of(t, found, 0)?;
     let mut made = byte_behind(t, w, offset, low)?;
     for byte in 1..bytes {
-        made = one_more(t, w, offset, byte, bytes, found, made)?;
+        made = one_more(t, w, &before, byte, made)?;
     }
     Ok(made)
 }

@@ -20,7 +20,7 @@ use crate::state::SymHeld;
 use hk_symaccess::size_of;
 use hk_symmem::{InitialReads, SymMemory};
 use hk_symvalue::words::number;
-use hk_symvalue::{SymValue, begin, of_value, step};
+use hk_symvalue::{Stride, SymValue, begin, of_value, step};
 use hk_term::{TermId, Terms};
 use ir_code::{Base, Input, Move};
 use ir_layout::Layout;
@@ -108,14 +108,6 @@ fn begun<R: InitialReads>(
     Ok(made)
 }
 
-// A step of an address: by an index at so many bits, times so many bytes, within its object where that is said.
-#[derive(Clone, Copy)]
-struct Stride {
-    inbounds: bool,
-    width: u32,
-    each: u64,
-}
-
 #[tactic(auto, using(crate::proofs::Sizes::stepped))]
 fn stepped<R: InitialReads>(
     t: &mut Terms,
@@ -134,15 +126,7 @@ fn stepped<R: InitialReads>(
     ensures value { IfOk result (λ r. (v : Reading) → meaning t.new r v ≡ step_of stride.inbounds (definition.size_at (memory_at t.old memory.now v) (meaning t.old from v)) stride.width stride.each (meaning t.old index v) (meaning t.old from v)) }
 {
     let size = size_for(t, layout, memory, stride.inbounds, from.base)?;
-    let made = step(
-        t,
-        stride.inbounds,
-        size,
-        stride.width,
-        stride.each,
-        index,
-        from,
-    )?;
+    let made = step(t, stride, size, index, from)?;
     Ok(made)
 }
 

@@ -177,28 +177,34 @@ fn moves_null(t: &mut Terms, inbounds: bool, over: TermId, by: TermId) -> Result
     Ok(either)
 }
 
+// A way in the object of this base, from one offset to another one.
+#[derive(Clone, Copy)]
+struct Way {
+    base: TermId,
+    from: TermId,
+    to: TermId,
+}
+
 // Whether a step from a pointer is none: null moves, or an offset leaves its object.
 fn is_no_step(
     t: &mut Terms,
     inbounds: bool,
     m: Moved,
     size: TermId,
-    base: TermId,
-    x: TermId,
-    y: TermId,
+    way: Way,
 ) -> Result<TermId, AllocError>
     requires moved { IsMoved t.old m }
     requires size { IsWord t.old 64 size }
-    requires base { IsWord t.old 64 base }
-    requires from { IsWord t.old 64 x }
-    requires to { IsWord t.old 64 y }
+    requires base { IsWord t.old 64 way.base }
+    requires from { IsWord t.old 64 way.from }
+    requires to { IsWord t.old 64 way.to }
     ensures frame { Extends t.old t.new }
     ensures truth { IfOk result (λ r. IsTruth t.new r) }
-    ensures value { IfOk result (λ r. (v : Reading) → is_true t.new r v ≡ (if nat_eq (value t.old base v) 1 then (inbounds && is_true t.old m.over v) || not (value t.old m.by v == 0) else inbounds && leaves_object (is_true t.old m.over v) (is_true t.old m.back v) (value t.old size v) (value t.old x v) (value t.old y v))) }
+    ensures value { IfOk result (λ r. (v : Reading) → is_true t.new r v ≡ (if nat_eq (value t.old way.base v) 1 then (inbounds && is_true t.old m.over v) || not (value t.old m.by v == 0) else inbounds && leaves_object (is_true t.old m.over v) (is_true t.old m.back v) (value t.old size v) (value t.old way.from v) (value t.old way.to v))) }
 {
-    let null = is_word(t, base, 1)?;
+    let null = is_word(t, way.base, 1)?;
     let moves = moves_null(t, inbounds, m.over, m.by)?;
-    let leaves = leaves_object(t, m.back, m.over, size, x, y)?;
+    let leaves = leaves_object(t, m.back, m.over, size, way.from, way.to)?;
     let outside = logic::flagged(t, inbounds, leaves)?;
     let made = logic::choose(t, null, moves, outside)?;
     Ok(made)
@@ -242,7 +248,12 @@ fn behind(
     are_small(t, from.bits);
     let x = offset_of(t, from.bits)?;
     let y = ops::add(t, x, m.by)?;
-    let none = is_no_step(t, inbounds, m, size, from.base, x, y)?;
+    let way = Way {
+        base: from.base,
+        from: x,
+        to: y,
+    };
+    let none = is_no_step(t, inbounds, m, size, way)?;
     let out = stays_out(t, bad, from.base, none)?;
     let poison = logic::or(t, from.poison, out)?;
     Ok(SymValue {
@@ -252,44 +263,47 @@ fn behind(
     })
 }
 
+/// How an index of a `getelementptr` steps: it is a signed number of `width` bits, and steps over values of `each` bytes. With `inbounds`
+/// the exact sum must lie in the object or at its end, and else the answer is poison; without it the sum is taken modulo 2^64.
+#[derive(Clone, Copy)]
+pub struct Stride {
+    pub inbounds: bool,
+    pub width: u32,
+    pub each: u64,
+}
+
 // A step by an index of a width that a term may have.
 fn step_at(
     t: &mut Terms,
-    inbounds: bool,
+    stride: Stride,
     size: TermId,
-    w: u32,
-    each: u64,
     index: SymValue,
     from: SymValue,
 ) -> Result<SymValue, AllocError>
-    requires width { IsWidth w }
+    requires width { IsWidth stride.width }
     requires size { IsWord t.old 64 size }
     requires index { IsSym t.old index }
     requires base { IsSym t.old from }
     ensures frame { Extends t.old t.new }
     ensures within { IfOk result (λ r. IsSym t.new r) }
-    ensures value { IfOk result (λ r. (v : Reading) → meaning t.new r v ≡ step_of inbounds (value t.old size v) w each (meaning t.old index v) (meaning t.old from v)) }
+    ensures value { IfOk result (λ r. (v : Reading) → meaning t.new r v ≡ step_of stride.inbounds (value t.old size v) stride.width stride.each (meaning t.old index v) (meaning t.old from v)) }
 {
     let bits = index.bits;
     // For the proof: the size's number is below 2 to its width.
     let _size = sized(t, size);
-    let bad = is_no_index(t, w, index)?;
-    let m = moved(t, w, each, bits)?;
-    let made = behind(t, inbounds, size, m, bad, from)?;
+    let bad = is_no_index(t, stride.width, index)?;
+    let m = moved(t, stride.width, stride.each, bits)?;
+    let made = behind(t, stride.inbounds, size, m, bad, from)?;
     Ok(made)
 }
 
-/// The address that an index steps to: the index is a signed number of width `w`, and steps over values of `each` bytes. The size is a
-/// term of width 64: that of the address's object. With `inbounds` the exact sum must lie in the object or at its end, and else the
-/// answer is poison; without it the sum is taken modulo 2^64. Null moves by nothing alone; a poison index, or one that is no number of
-/// the width, makes poison.
+/// The address that an index steps to. The size is a term of width 64: that of the address's object. Null moves by nothing alone; a
+/// poison index, or one that is no number of the stride's width, makes poison.
 #[tactic(auto, using(crate::proofs::IndexLaws::no_width))]
 pub fn step(
     t: &mut Terms,
-    inbounds: bool,
+    stride: Stride,
     size: TermId,
-    w: u32,
-    each: u64,
     index: SymValue,
     from: SymValue,
 ) -> Result<SymValue, AllocError>
@@ -298,10 +312,10 @@ pub fn step(
     requires base { IsSym t.old from }
     ensures frame { Extends t.old t.new }
     ensures within { IfOk result (λ r. IsSym t.new r) }
-    ensures value { IfOk result (λ r. (v : Reading) → meaning t.new r v ≡ step_of inbounds (value t.old size v) w each (meaning t.old index v) (meaning t.old from v)) }
+    ensures value { IfOk result (λ r. (v : Reading) → meaning t.new r v ≡ step_of stride.inbounds (value t.old size v) stride.width stride.each (meaning t.old index v) (meaning t.old from v)) }
 {
-    if 1 <= w && w <= 64 {
-        let made = step_at(t, inbounds, size, w, each, index, from)?;
+    if 1 <= stride.width && stride.width <= 64 {
+        let made = step_at(t, stride, size, index, from)?;
         Ok(made)
     } else {
         let made = of_value(t, Value::Poison)?;

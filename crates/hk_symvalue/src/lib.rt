@@ -26,7 +26,7 @@ pub mod words;
 pub use addresses::compare_pointers;
 pub use compare::compare_numbers;
 pub use conversions::convert;
-pub use indices::step;
+pub use indices::{Stride, step};
 pub use intrinsics::with_overflow;
 pub use make::{choose, of_term, of_value};
 pub use pairs::pair;

@@ -3,7 +3,7 @@
 ghost use Rattle.std.specs.Prelude.{◌≡◌, ℕ, ◌^◌, ◌<◌, ◌≤◌, List, length, IfOk, OnOk, OnErr};
 ghost use Rattle.hk_term.specs.Shape.{Grows};
 ghost use Rattle.hk_term.specs.Meaning.{Reading, reading_of, value};
-ghost use Rattle.hk_term.specs.Walk.{Known};
+ghost use Rattle.hk_term.specs.Walk.{scoped, Known};
 ghost use Rattle.hk_term.specs.Room.{IsRoom, IsFor};
 ghost use Rattle.hk_term.specs.declared.node.Node.{Node};
 
@@ -11,7 +11,7 @@ use crate::node::TermId;
 use crate::scope::Scope;
 use crate::terms::Terms;
 use crate::valuation::Valuation;
-use crate::walk::{compute, fresh_stamp};
+use crate::walk::{Context, compute, fresh_stamp};
 use std::alloc::{AllocError, Global};
 use std::marker::Model;
 
@@ -89,40 +89,43 @@ impl ValueRoom {
     {
         // For the proof: the list has fewer than 2^63 nodes.
         let _len = terms.len();
-        known_or_computed(
+        let scope = Scope::new();
+        let context = Context {
             terms,
             v,
+            scope: &scope,
+            stamp: self.stamp,
+        };
+        known_or_computed(
+            &context,
             t.place(),
             &mut self.values,
             &mut self.marks,
             &mut self.clock,
-            self.stamp,
         )
     }
 }
 
 // The value of a term among numbers that are known where their mark is the stamp.
 fn known_or_computed(
-    terms: &Terms,
-    v: &Valuation,
+    context: &Context<'_>,
     t: u64,
     values: &mut [u64],
     marks: &mut [u64],
     clock: &mut u64,
-    stamp: u64,
 ) -> u64
-    requires term { t < length terms.now }
-    requires small { length terms.now < 2 ^ 63 }
-    requires size { length marks.old ≡ length terms.now }
-    requires room { IsRoom stamp clock.old values.old marks.old }
-    requires known { Known terms.now (reading_of v.now) stamp values.old marks.old }
-    ensures value { result ≡ value terms.now t (reading_of v.now) }
-    ensures room { IsRoom stamp clock.new values.new marks.new }
-    ensures known { Known terms.now (reading_of v.now) stamp values.new marks.new }
+    requires term { t < length context.now.terms.now }
+    requires small { length context.now.terms.now < 2 ^ 63 }
+    requires size { length marks.old ≡ length context.now.terms.now }
+    requires room { IsRoom context.now.stamp clock.old values.old marks.old }
+    requires known { Known context.now.terms.now (scoped (reading_of context.now.v.now) context.now.scope.now) context.now.stamp values.old marks.old }
+    ensures value { result ≡ value context.now.terms.now t (scoped (reading_of context.now.v.now) context.now.scope.now) }
+    ensures room { IsRoom context.now.stamp clock.new values.new marks.new }
+    ensures known { Known context.now.terms.now (scoped (reading_of context.now.v.now) context.now.scope.now) context.now.stamp values.new marks.new }
 {
-    if marks[t as usize] == stamp {
+    if marks[t as usize] == context.stamp {
         values[t as usize]
     } else {
-        compute(terms, v, &Scope::new(), t, values, marks, clock, stamp)
+        compute(context, t, values, marks, clock)
     }
 }

@@ -14,7 +14,7 @@ use crate::node::{Node, TermId, TermKind};
 use crate::room::ValueRoom;
 use crate::scope::Scope;
 use crate::valuation::Valuation;
-use crate::walk::compute;
+use crate::walk::{Context, compute};
 use indexmap::IndexMap;
 use std::alloc::{AllocError, Global};
 use std::marker::Model;
@@ -125,16 +125,14 @@ impl Terms {
         let marks = &mut rest[..reached];
         marks.fill(0);
         let mut clock = 1;
-        compute(
-            self,
+        let scope = Scope::new();
+        let context = Context {
+            terms: self,
             v,
-            &Scope::new(),
-            t.place(),
-            values,
-            marks,
-            &mut clock,
-            1,
-        )
+            scope: &scope,
+            stamp: 1,
+        };
+        compute(&context, t.place(), values, marks, &mut clock)
     }
 
     /// The value of a term under a valuation, by a room that is for this list and this valuation. What the room knows is not

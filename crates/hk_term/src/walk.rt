@@ -141,37 +141,44 @@ pub(crate) fn fresh_stamp(marks: &mut [u64], clock: &mut u64, base: u64, last: u
     *clock
 }
 
+// What a term is computed under: the list that it stands in, the valuation with the numbers of the bound variables, and the
+// stamp of what is done.
+#[derive(Drop)]
+pub(crate) struct Context<'a> {
+    pub(crate) terms: &'a Terms,
+    pub(crate) v: &'a Valuation,
+    pub(crate) scope: &'a Scope<'a>,
+    pub(crate) stamp: u64,
+}
+
 // The value of a term under a reading. What is done has its number; of the rest only what the term reaches is computed.
 #[cycle(walk)]
 pub(crate) fn compute(
-    terms: &Terms,
-    v: &Valuation,
-    scope: &Scope<'_>,
+    context: &Context<'_>,
     t: u64,
     values: &mut [u64],
     marks: &mut [u64],
     clock: &mut u64,
-    stamp: u64,
 ) -> u64
-    requires term { t < length terms.now }
+    requires term { t < length context.now.terms.now }
     requires values { t < length values.old }
     requires marks { t < length marks.old }
-    requires some { 1 ≤ stamp }
-    requires later { stamp + t < 2 ^ 64 }
-    requires known { Known terms.now (scoped (reading_of v.now) scope.now) stamp values.old marks.old }
+    requires some { 1 ≤ context.now.stamp }
+    requires later { context.now.stamp + t < 2 ^ 64 }
+    requires known { Known context.now.terms.now (scoped (reading_of context.now.v.now) context.now.scope.now) context.now.stamp values.old marks.old }
     requires timed { IsTimed marks.old clock.old }
-    requires past { stamp ≤ clock.old }
-    ensures value { result ≡ value terms.now t (scoped (reading_of v.now) scope.now) }
-    ensures known { Known terms.now (scoped (reading_of v.now) scope.now) stamp values.new marks.new }
-    ensures keeps { Keeps (t + 1) (stamp - 1) values.old marks.old values.new marks.new }
+    requires past { context.now.stamp ≤ clock.old }
+    ensures value { result ≡ value context.now.terms.now t (scoped (reading_of context.now.v.now) context.now.scope.now) }
+    ensures known { Known context.now.terms.now (scoped (reading_of context.now.v.now) context.now.scope.now) context.now.stamp values.new marks.new }
+    ensures keeps { Keeps (t + 1) (context.now.stamp - 1) values.old marks.old values.new marks.new }
     ensures timed { IsTimed marks.new clock.new }
-    ensures past { stamp ≤ clock.new }
+    ensures past { context.now.stamp ≤ clock.new }
 {
     values[t as usize] = t;
     marks[t as usize] = 0;
     let mut at = t;
-    'going: while marks[t as usize] != stamp {
-        at = advance(terms, v, scope, t, at, values, marks, clock, stamp);
+    'going: while marks[t as usize] != context.stamp {
+        at = advance(context, t, at, values, marks, clock);
     }
     values[t as usize]
 }
@@ -179,40 +186,37 @@ pub(crate) fn compute(
 // One step of the computation of a term: down to a part that is not done, or up from a term whose parts are done.
 #[cycle(walk)]
 fn advance(
-    terms: &Terms,
-    v: &Valuation,
-    scope: &Scope<'_>,
+    context: &Context<'_>,
     t: u64,
     at: u64,
     values: &mut [u64],
     marks: &mut [u64],
     clock: &mut u64,
-    stamp: u64,
 ) -> u64
-    requires term { t < length terms.now }
+    requires term { t < length context.now.terms.now }
     requires values { t < length values.old }
     requires marks { t < length marks.old }
-    requires some { 1 ≤ stamp }
-    requires later { stamp + t < 2 ^ 64 }
-    requires standing { Standing terms.now (scoped (reading_of v.now) scope.now) stamp t values.old marks.old clock.old at }
-    requires going { slice_index marks.old t ≢ stamp }
-    ensures standing { Standing terms.now (scoped (reading_of v.now) scope.now) stamp t values.new marks.new clock.new result }
-    ensures keeps { Keeps (t + 1) (stamp - 1) values.old marks.old values.new marks.new }
-    ensures smaller { weight stamp marks.new * (t + 1) + result < weight stamp marks.old * (t + 1) + at }
+    requires some { 1 ≤ context.now.stamp }
+    requires later { context.now.stamp + t < 2 ^ 64 }
+    requires standing { Standing context.now.terms.now (scoped (reading_of context.now.v.now) context.now.scope.now) context.now.stamp t values.old marks.old clock.old at }
+    requires going { slice_index marks.old t ≢ context.now.stamp }
+    ensures standing { Standing context.now.terms.now (scoped (reading_of context.now.v.now) context.now.scope.now) context.now.stamp t values.new marks.new clock.new result }
+    ensures keeps { Keeps (t + 1) (context.now.stamp - 1) values.old marks.old values.new marks.new }
+    ensures smaller { weight context.now.stamp marks.new * (t + 1) + result < weight context.now.stamp marks.old * (t + 1) + at }
 {
-    terms.values_are_below();
-    let node = terms.node(TermId::at(at));
-    match waiting(node, at, marks, stamp) {
+    context.terms.values_are_below();
+    let node = context.terms.node(TermId::at(at));
+    match waiting(node, at, marks, context.stamp) {
         Some(part) => {
             values[part as usize] = at;
             marks[part as usize] = 0;
             part
         }
         None => {
-            let number = number_of(terms, v, scope, at, node, values, marks, clock, stamp);
+            let number = number_of(context, at, node, values, marks, clock);
             let next = values[at as usize];
             values[at as usize] = number;
-            marks[at as usize] = stamp;
+            marks[at as usize] = context.stamp;
             next
         }
     }
@@ -221,78 +225,88 @@ fn advance(
 // The value of a term whose parts are done.
 #[cycle(walk)]
 fn number_of(
-    terms: &Terms,
-    v: &Valuation,
-    scope: &Scope<'_>,
+    context: &Context<'_>,
     at: u64,
     node: &Node,
     values: &mut [u64],
     marks: &mut [u64],
     clock: &mut u64,
-    stamp: u64,
 ) -> u64
-    requires holds { Holds terms.now at node.now }
+    requires holds { Holds context.now.terms.now at node.now }
     requires values { at < length values.old }
     requires marks { at < length marks.old }
-    requires some { 1 ≤ stamp }
-    requires later { stamp + at < 2 ^ 64 }
-    requires parts { PartsKnown node.now terms.now (scoped (reading_of v.now) scope.now) values.old }
+    requires some { 1 ≤ context.now.stamp }
+    requires later { context.now.stamp + at < 2 ^ 64 }
+    requires parts { PartsKnown node.now context.now.terms.now (scoped (reading_of context.now.v.now) context.now.scope.now) values.old }
     requires timed { IsTimed marks.old clock.old }
-    requires past { stamp ≤ clock.old }
-    ensures value { result ≡ value terms.now at (scoped (reading_of v.now) scope.now) }
-    ensures keeps { Keeps at stamp values.old marks.old values.new marks.new }
+    requires past { context.now.stamp ≤ clock.old }
+    ensures value { result ≡ value context.now.terms.now at (scoped (reading_of context.now.v.now) context.now.scope.now) }
+    ensures keeps { Keeps at context.now.stamp values.old marks.old values.new marks.new }
     ensures timed { IsTimed marks.new clock.new }
-    ensures past { stamp ≤ clock.new }
+    ensures past { context.now.stamp ≤ clock.new }
 {
     match node {
         Node::ForAll { bound, body } => u64::from(every(
-            terms,
-            v,
-            scope,
+            context,
             bound.as_slice(),
             body.place(),
             values,
             marks,
             clock,
-            stamp,
         )),
-        _ => ready(terms, v, scope, TermId::at(at), node, values),
+        _ => ready(
+            context.terms,
+            context.v,
+            context.scope,
+            TermId::at(at),
+            node,
+            values,
+        ),
     }
 }
 
-// Whether a body is true for each tuple of numbers of bound variables. The stamps above the base are free.
+// Whether a body is true for each tuple of numbers of bound variables. The stamps above the context's are free.
 #[cycle(walk)]
 fn every(
-    terms: &Terms,
-    v: &Valuation,
-    scope: &Scope<'_>,
+    context: &Context<'_>,
     bound: &[Bound],
     body: u64,
     values: &mut [u64],
     marks: &mut [u64],
     clock: &mut u64,
-    base: u64,
 ) -> bool
-    requires term { body < length terms.now }
+    requires term { body < length context.now.terms.now }
     requires values { body < length values.old }
     requires marks { body < length marks.old }
-    requires later { base + body + 1 < 2 ^ 64 }
+    requires later { context.now.stamp + body + 1 < 2 ^ 64 }
     requires timed { IsTimed marks.old clock.old }
-    requires past { base ≤ clock.old }
-    ensures value { result ≡ every_tuple bound.now (λ u. nat_eq (value terms.now body u) 1) (scoped (reading_of v.now) scope.now) }
-    ensures keeps { Keeps (body + 1) base values.old marks.old values.new marks.new }
+    requires past { context.now.stamp ≤ clock.old }
+    ensures value { result ≡ every_tuple bound.now (λ u. nat_eq (value context.now.terms.now body u) 1) (scoped (reading_of context.now.v.now) context.now.scope.now) }
+    ensures keeps { Keeps (body + 1) context.now.stamp values.old marks.old values.new marks.new }
     ensures timed { IsTimed marks.new clock.new }
-    ensures past { base ≤ clock.new }
+    ensures past { context.now.stamp ≤ clock.new }
 {
     match bound {
         [] => {
-            let stamp = fresh_stamp(marks, clock, base, u64::MAX - body);
-            compute(terms, v, scope, body, values, marks, clock, stamp) == 1
+            let stamp = fresh_stamp(marks, clock, context.stamp, u64::MAX - body);
+            let fresh = Context {
+                terms: context.terms,
+                v: context.v,
+                scope: context.scope,
+                stamp,
+            };
+            compute(&fresh, body, values, marks, clock) == 1
         }
         [first, rest @ ..] => {
             for k in 0..first.size {
-                let inner = Scope::with(first.id, k, &*scope);
-                if !every(terms, v, &inner, rest, body, values, marks, clock, base) {
+                let inner = Scope::with(first.id, k, &*context.scope);
+                let within = Context {
+                    terms: context.terms,
+                    v: context.v,
+                    scope: &inner,
+                    stamp: context.stamp,
+                };
+                if !every(&within, rest, body, values, marks, clock) {
                     return false;
                 }
             }

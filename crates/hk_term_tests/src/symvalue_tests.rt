@@ -6,7 +6,7 @@ ghost use Rattle.hk_term.specs.Shape.{IsWidth, width};
 ghost use Rattle.hk_symvalue.specs.Meaning.{IsMade, IsSym, IsTruth};
 
 use hk_symvalue::{
-    SymMade, SymValue, binary, compare_pointers, is_between, of_term, of_value, pair, step,
+    Stride, SymMade, SymValue, binary, compare_pointers, is_between, of_term, of_value, pair, step,
 };
 use hk_term::{Node, TermId, Terms, Valuation, ValueRoom};
 use ir_ast::{BinaryKind, Flags, Predicate};
@@ -348,7 +348,12 @@ fn step_of(t: &mut Terms, inbounds: bool, each: u64, from: Value) -> Result<SymV
     let size = t.intern(Node::Var { width: 64, id: 2 })?;
     let i = variable(t, 8, 1)?;
     let a = of_value(t, from)?;
-    let made = step(t, inbounds, size, 8, each, i, a)?;
+    let stride = Stride {
+        inbounds,
+        width: 8,
+        each,
+    };
+    let made = step(t, stride, size, i, a)?;
     Ok(made)
 }
 

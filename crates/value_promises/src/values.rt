@@ -7,7 +7,7 @@ ghost use Rattle.ir_value.specs.Pointers.{reach, step_of};
 ghost use Rattle.hk_symvalue.specs.Meaning.{IsSym, IsWord, is_true, meaning};
 ghost use Rattle.hk_symvalue.specs.Rows.{Answers, Reaches};
 
-use hk_symvalue::{SymMade, SymValue};
+use hk_symvalue::{Stride, SymMade, SymValue};
 use hk_term::{TermId, Terms};
 use ir_ast::{BinaryKind, Flags, Predicate};
 use std::alloc::AllocError;
@@ -59,19 +59,17 @@ pub fn select(t: &mut Terms, c: SymValue, a: SymValue, b: SymValue) -> Result<Sy
 /// A step of a `getelementptr` gives the address that the machine's gives.
 pub fn step(
     t: &mut Terms,
-    inbounds: bool,
+    stride: Stride,
     size: TermId,
-    w: u32,
-    each: u64,
     index: SymValue,
     from: SymValue,
 ) -> Result<SymValue, AllocError>
     requires size { IsWord t.old 64 size }
     requires index { IsSym t.old index }
     requires base { IsSym t.old from }
-    ensures { IfOk result (λ r. (v : Reading) → meaning t.new r v ≡ step_of inbounds (value t.old size v) w each (meaning t.old index v) (meaning t.old from v)) }
+    ensures { IfOk result (λ r. (v : Reading) → meaning t.new r v ≡ step_of stride.inbounds (value t.old size v) stride.width stride.each (meaning t.old index v) (meaning t.old from v)) }
 {
-    let made = hk_symvalue::step(t, inbounds, size, w, each, index, from)?;
+    let made = hk_symvalue::step(t, stride, size, index, from)?;
     Ok(made)
 }
 

@@ -19,5 +19,5 @@ loop-k-preserved c =
       tried = λ e. numbers-more (λ k. (ks : List ℕ) → is_among c.args.s.now.instances (Tuple k ks) ≡ false → IsTrue q.nodes q.table f (reading_of c.args.case.now) (Tuple k ks)) c.loop-k.k
           (c.loop-k.invariant.tried (c.search_in.ensures.kept e))
           (subst (λ (r : Reading). (ks : List ℕ) → is_among c.args.s.now.instances (Tuple c.loop-k.k ks) ≡ false → IsTrue q.nodes q.table f r (Tuple c.loop-k.k ks)) c.loop-k.invariant.case (c.in_ok-search_in.ensures.tried e));
-      found = subst (λ (r : Reading). All (IsViolated q f r) c.loop-k.found → All (IsViolated q f r) c.search_in.new.found) c.loop-k.invariant.case c.in_ok-search_in.ensures.found c.loop-k.invariant.found;
+      found = subst (λ (r : Reading). All (IsViolated q f r) c.loop-k.progress.found → All (IsViolated q f r) c.search_in.new.progress.found) c.loop-k.invariant.case c.in_ok-search_in.ensures.found c.loop-k.invariant.found;
     }

@@ -12,6 +12,6 @@ abbrev pub invariant-loop-k : goal.invariant-loop-k
 invariant-loop-k l = record {
   room : length l.room ≡ length l.s.terms;
   case : reading_of l.case ≡ reading_of l.fn.case;
-  tried : l.found ≡ [] → (k : ℕ) → k < l.k → (ks : List ℕ) → is_among l.s.instances (Tuple k ks) ≡ false → IsTrue (asked_of l.s).nodes (asked_of l.s).table (number_in l.s.bits l.values) (reading_of l.fn.case) (Tuple k ks);
-  found : All (IsViolated (asked_of l.s) (number_in l.s.bits l.values) (reading_of l.fn.case)) l.found;
+  tried : l.progress.found ≡ [] → (k : ℕ) → k < l.k → (ks : List ℕ) → is_among l.s.instances (Tuple k ks) ≡ false → IsTrue (asked_of l.s).nodes (asked_of l.s).table (number_in l.s.bits l.values) (reading_of l.fn.case) (Tuple k ks);
+  found : All (IsViolated (asked_of l.s) (number_in l.s.bits l.values) (reading_of l.fn.case)) l.progress.found;
 }

@@ -23,5 +23,5 @@ returns-clause-found c =
     let is : slice_get c.args.s.now.terms c.in-Some.place.0 ≡ Some (ForAll c.as_slice-2.result.now c.in-Some.place.2) = c.in-Some.ensures.some.1 ∙ ap (λ b. Some (ForAll b c.in-Some.place.2)) (sym c.as_slice-2.ensures) in
     let true_ : f c.in-Some.place.0 ≡ 1 = search rules in
     c.in_ok-search.ensures.found f (reading_of c.args.case.now)
-    (subst (λ (z : List ℕ). IsSearch (asked_of c.args.s.now) f (reading_of c.args.case.now) c.args.k c.in-Some.place.2 c.as_slice-2.result.now z (reading_of c.args.case.now)) (sym c.new-tuple.ensures.items)
+    (subst (λ (z : List ℕ). IsSearch (asked_of c.args.s.now) f (reading_of c.args.case.now) c.args.k c.in-Some.place.2 c.as_slice-2.result.now z (reading_of c.args.case.now)) (sym c.clear.ensures.items)
     (search-begins (asked_of c.args.s.now) f (reading_of c.args.case.now) c.args.k c.in-Some.place.0 c.in-Some.place.2 c.as_slice-2.result.now at is true_))

@@ -7,7 +7,7 @@ use Rattle.hk_lrat.proofs.hints.add_reason.Goals as goal
 
 pub returns-clause-reason : goal.returns-clause-reason
 returns-clause-reason c =
-    let s : State = record { vars = c.args.vars; last = c.args.last; live = live_of c.args.lits.now c.args.table.now } in
+    let s : State = record { vars = c.args.clauses.now.vars; last = c.args.clauses.now.last; live = live_of c.args.clauses.now.lits.now c.args.clauses.now.table.now } in
     c.hints_reason.ensures.reason
-    ∙ add_fault-hints s c.args.id c.args.clause.now c.args.hints.now (marked c.deny.new.marks c.next_row.result) c.if-not-deny.ensures.answer c.if-id-last.false
-    (live_of-over c.args.vars c.args.lits.now c.args.table.now c.requires.lits) c.if-not-deny.ensures.denied
+    ∙ add_fault-hints s c.args.addition.now.id c.args.addition.now.clause.now c.args.addition.now.hints.now (marked c.deny.new.marks c.next_row.result) c.if-not-deny.ensures.answer c.if-addition-clauses.false
+    (live_of-over c.args.clauses.now.vars c.args.clauses.now.lits.now c.args.clauses.now.table.now c.requires.lits) c.if-not-deny.ensures.denied

@@ -26,12 +26,12 @@ joined p k place high made whole ys at is rest e =
 pub returns-clause-value : goal.returns-clause-value
 returns-clause-value c = λ v b read made.
     let keeps : Keeps c.args.t.now c.byte_of.new.t = record { longer = search rules; widths = search rules; values = search rules } in
-    let p : ℕ = value c.args.t.now c.args.offset v in
+    let p : ℕ = value c.args.t.now c.args.before.now.offset v in
     let kept_made : (v : Reading) → value c.byte_behind.new.t c.args.made v ≡ value c.args.t.now c.args.made v = search rules in
-    let n = next_byte p c.args.byte c.args.bytes (value c.args.t.now c.args.found v)
+    let n = next_byte p c.args.byte c.args.before.now.bytes (value c.args.t.now c.args.before.now.found v)
     (value c.byte_of.new.t c.in_ok-place.place v) (value c.byte_of.new.t c.in_ok-part.part v) b read c.requires.byte
     (c.byte_of.ensures.keeps_values c.in_ok-place.place c.in_ok-place.ensures.within v ∙ c.in_ok-place.ensures.value v)
-    (c.in_ok-part.ensures.value v ∙ ap (λ x. x / 256 ^ c.args.byte % 256) (c.place_behind.ensures.keeps_values c.args.found c.requires.found v)) in
+    (c.in_ok-part.ensures.value v ∙ ap (λ x. x / 256 ^ c.args.byte % 256) (c.place_behind.ensures.keeps_values c.args.before.now.found c.requires.found v)) in
     joined p c.args.byte (value c.byte_of.new.t c.in_ok-place.place v) (value c.byte_behind.new.t c.in_ok-high.high v)
     (value c.byte_behind.new.t c.args.made v) (value c.above.new.t c.in_ok-whole.whole v) (after_write c.args.t.now v c.args.w.now b)
     n.0

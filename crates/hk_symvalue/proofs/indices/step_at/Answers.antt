@@ -11,8 +11,8 @@ returns-clause-value c = λ v.
     let mid = c.moved.new.t in
     let last = c.behind.new.t in
     let m = c.in_ok-m.m in
-    let w = c.args.w in
-    let each = c.args.each in
+    let w = c.args.stride.width in
+    let each = c.args.stride.each in
     let b = value old c.args.from.base v in
     let x = value old c.args.from.bits v in
     let size = value old c.args.size v in
@@ -37,8 +37,8 @@ returns-clause-value c = λ v.
     let by_is : by ≡ delta_of (is_back w n) (distance w n each) = c.in_ok-m.ensures.by v ∙ (λ i. delta_of (is_back w (index_is i % 2 ^ w)) (distance w (index_is i % 2 ^ w) each)) in
     let base : value last c.in_ok-made.made.base v ≡ b = c.in_ok-made.ensures.base v ∙ base_mid in
     let to : value last c.in_ok-made.made.bits v ≡ (x + by) % 2 ^ 64 = c.in_ok-made.ensures.bits v ∙ (λ i. (bits_mid i + by) % 2 ^ 64) in
-    let poison : is_true last c.in_ok-made.made.poison v ≡ (pf || (bad || stays_at c.args.inbounds back over by b x size)) =
-    c.in_ok-made.ensures.poison v ∙ (λ i. poison_mid i || (bad || stays_at c.args.inbounds back over by (base_mid i) (bits_mid i) (size_mid i))) in
+    let poison : is_true last c.in_ok-made.made.poison v ≡ (pf || (bad || stays_at c.args.stride.inbounds back over by b x size)) =
+    c.in_ok-made.ensures.poison v ∙ (λ i. poison_mid i || (bad || stays_at c.args.stride.inbounds back over by (base_mid i) (bits_mid i) (size_mid i))) in
     (λ i. stands_for (is_true last c.in_ok-made.made.poison v) (base i) (value last c.in_ok-made.made.bits v))
-    ∙ step_is c.args.inbounds (is_true old c.args.index.poison v) pf bad back over (is_true last c.in_ok-made.made.poison v) w each (value old c.args.index.base v) xi b x size
+    ∙ step_is c.args.stride.inbounds (is_true old c.args.index.poison v) pf bad back over (is_true last c.in_ok-made.made.poison v) w each (value old c.args.index.base v) xi b x size
     (value last c.in_ok-made.made.bits v) n by c.requires.width.0 c.requires.width.1 small room refl bad_is back_is over_is by_is to poison

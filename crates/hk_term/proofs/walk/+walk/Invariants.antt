@@ -17,15 +17,15 @@ decreases-every l = l.body * 2 ^ 64 + 5 + length l.bound.now
 
 abbrev pub invariant-compute-going : goal.invariant-compute-going
 invariant-compute-going l =
-    (Standing l.terms (scoped (reading_of l.v) l.scope) l.stamp l.t l.values l.marks l.clock l.at)
-    × (Keeps (l.t + 1) (l.stamp - 1) l.fn.values l.fn.marks l.values l.marks)
+    (Standing l.context.terms.now (scoped (reading_of l.context.v.now) l.context.scope.now) l.context.stamp l.t l.values l.marks l.clock l.at)
+    × (Keeps (l.t + 1) (l.context.stamp - 1) l.fn.values l.fn.marks l.values l.marks)
 
 abbrev pub decreases-compute-going : goal.decreases-compute-going
-decreases-compute-going l = weight l.stamp l.marks * (l.t + 1) + l.at
+decreases-compute-going l = weight l.context.stamp l.marks * (l.t + 1) + l.at
 
 abbrev pub invariant-every-loop-k : goal.invariant-every-loop-k
 invariant-every-loop-k l =
-    (every_below l.k (λ j. every_tuple l.rest (λ u. nat_eq (value l.terms l.body u) 1) (with_var (scoped (reading_of l.v) l.scope) l.first.id j)) ≡ true)
-    × (Keeps (l.body + 1) l.base l.fn.values l.fn.marks l.values l.marks)
+    (every_below l.k (λ j. every_tuple l.rest (λ u. nat_eq (value l.context.terms.now l.body u) 1) (with_var (scoped (reading_of l.context.v.now) l.context.scope.now) l.first.id j)) ≡ true)
+    × (Keeps (l.body + 1) l.context.stamp l.fn.values l.fn.marks l.values l.marks)
     × (IsTimed l.marks l.clock)
-    × (l.base ≤ l.clock)
+    × (l.context.stamp ≤ l.clock)
