@@ -57,26 +57,33 @@ fn first_arm(index: &NameIndex, places: &Tally, name: &Name) -> Option<usize>
     }
 }
 
+/// The arms of a phi, with the places of the blocks that they name, by the names of all blocks.
+#[derive(Drop)]
+struct PlacedArms<'a> {
+    index: &'a NameIndex,
+    places: &'a Tally,
+    arms: &'a [(Operand, Name)],
+}
+
 /// Whether the operand of an arm is that of the first arm from its block.
 fn is_as_first(
     alloc: Global,
     numbers: &mut TypeNumbers,
     types: &TypeTable,
     over: &IrType,
-    index: &NameIndex,
-    places: &Tally,
-    arms: &[(Operand, Name)],
+    all: &PlacedArms<'_>,
     arm: &(Operand, Name),
 ) -> Result<bool, AllocError>
-    requires few { length index.now < 2 ^ 32 }
+    requires few { length all.now.index.now < 2 ^ 32 }
     requires small { length types.now < 2 ^ 32 }
     requires own { IsFor (view_entries view_type_entry types.now) numbers.old }
-    ensures same { IfOk result (λ same. MatchBool same (IsAsFirst (view_entries view_type_entry types.now) (view_type over.now) index.now places.now (view_arms arms.now) (view_operand arm.now.0, arm.now.1)) (IsAsFirst (view_entries view_type_entry types.now) (view_type over.now) index.now places.now (view_arms arms.now) (view_operand arm.now.0, arm.now.1) → ⊥)) }
+    ensures same { IfOk result (λ same. MatchBool same (IsAsFirst (view_entries view_type_entry types.now) (view_type over.now) all.now.index.now all.now.places.now (view_arms all.now.arms.now) (view_operand arm.now.0, arm.now.1)) (IsAsFirst (view_entries view_type_entry types.now) (view_type over.now) all.now.index.now all.now.places.now (view_arms all.now.arms.now) (view_operand arm.now.0, arm.now.1) → ⊥)) }
     ensures own { IsFor (view_entries view_type_entry types.now) numbers.new }
 {
-    let Some(first) = first_arm(index, places, &arm.1) else {
+    let Some(first) = first_arm(all.index, all.places, &arm.1) else {
         return Ok(true);
     };
+    let arms = all.arms;
     if first >= arms.len() {
         return Ok(true);
     }
@@ -100,8 +107,13 @@ fn are_as_first(
     ensures same { IfOk result (λ same. MatchBool same (All (IsAsFirst (view_entries view_type_entry types.now) (view_type over.now) index.now places.now (view_arms arms.now)) (view_arms arms.now)) (All (IsAsFirst (view_entries view_type_entry types.now) (view_type over.now) index.now places.now (view_arms arms.now)) (view_arms arms.now) → ⊥)) }
     ensures own { IsFor (view_entries view_type_entry types.now) numbers.new }
 {
+    let all = PlacedArms {
+        index,
+        places,
+        arms,
+    };
     for arm in arms {
-        let same = is_as_first(alloc, numbers, types, over, index, places, arms, arm)?;
+        let same = is_as_first(alloc, numbers, types, over, &all, arm)?;
         if !same {
             return Ok(false);
         }

@@ -25,7 +25,7 @@ ghost use Rattle.ir_check.specs.Parts.{BlockFaultsAt, BodyFaults, AreNotedIn, Ar
 use crate::edges::blocks_of;
 use crate::faults::least;
 use crate::heads::on_line;
-use crate::instrs::instr_reason;
+use crate::instrs::{Context, Spot, instr_reason};
 use crate::sources::sources_of;
 use crate::tally::Tally;
 use crate::uses::Uses;
@@ -54,31 +54,32 @@ fn block_fault(
     alloc: Global,
     numbers: &mut TypeNumbers,
     values: &mut TypeNumbers,
-    kernel: &Module,
-    scope: &Scope,
-    uses: &Uses,
+    context: &Context<'_>,
     sources: &Tally,
     at: u32,
     block: &Block,
 ) -> Result<Option<KernelFault>, AllocError>
-    requires small { IsSmall kernel.now }
-    requires typed { IsTyped numbers.old scope.now }
-    requires values { IsFor (view_module kernel.now).types values.old }
-    requires asked { IsAsked (view_module kernel.now) (function_in uses.now) (scoped.types_in scope.now) (scoped.function_in scope.now) }
-    requires stands { slice_get (blocks_of (function_in uses.now)) at ≡ Some (view_block block.now) }
-    requires sources { AreSources (function_in uses.now) at sources.now }
+    requires small { IsSmall context.now.kernel.now }
+    requires typed { IsTyped numbers.old context.now.scope.now }
+    requires values { IsFor (view_module context.now.kernel.now).types values.old }
+    requires asked { IsAsked (view_module context.now.kernel.now) (function_in context.now.uses.now) (scoped.types_in context.now.scope.now) (scoped.function_in context.now.scope.now) }
+    requires stands { slice_get (blocks_of (function_in context.now.uses.now)) at ≡ Some (view_block block.now) }
+    requires sources { AreSources (function_in context.now.uses.now) at sources.now }
     requires noted { AreNotedIn (view_block block.now).instrs }
-    ensures least { IfOk result (IsLeast (BlockFaultsAt (view_module kernel.now) (function_in uses.now) at)) }
-    ensures typed { IsTyped numbers.new scope.now }
-    ensures values { IsFor (view_module kernel.now).types values.new }
+    ensures least { IfOk result (IsLeast (BlockFaultsAt (view_module context.now.kernel.now) (function_in context.now.uses.now) at)) }
+    ensures typed { IsTyped numbers.new context.now.scope.now }
+    ensures values { IsFor (view_module context.now.kernel.now).types values.new }
 {
     let instrs = block.instrs.items.as_slice();
     let mut found = None;
     let mut phis = true;
     for (place, instr) in instrs.iter().enumerate() {
-        let reason = instr_reason(
-            alloc, numbers, values, kernel, scope, uses, sources, at, place, phis, instr,
-        )?;
+        let spot = Spot {
+            block: at,
+            place,
+            phis,
+        };
+        let reason = instr_reason(alloc, numbers, values, context, sources, &spot, instr)?;
         found = least(found, on_line(instr.line, reason));
         phis = are_phis(phis, &instr.op);
     }
@@ -90,24 +91,22 @@ fn blocks_fault(
     alloc: Global,
     numbers: &mut TypeNumbers,
     values: &mut TypeNumbers,
-    kernel: &Module,
-    scope: &Scope,
-    uses: &Uses,
+    context: &Context<'_>,
     sources: &[Tally],
     blocks: &[Block],
 ) -> Result<Option<KernelFault>, AllocError>
-    requires small { IsSmall kernel.now }
-    requires typed { IsTyped numbers.old scope.now }
-    requires values { IsFor (view_module kernel.now).types values.old }
-    requires asked { IsAsked (view_module kernel.now) (function_in uses.now) (scoped.types_in scope.now) (scoped.function_in scope.now) }
-    requires blocks { map view_block blocks.now ≡ blocks_of (function_in uses.now) }
+    requires small { IsSmall context.now.kernel.now }
+    requires typed { IsTyped numbers.old context.now.scope.now }
+    requires values { IsFor (view_module context.now.kernel.now).types values.old }
+    requires asked { IsAsked (view_module context.now.kernel.now) (function_in context.now.uses.now) (scoped.types_in context.now.scope.now) (scoped.function_in context.now.scope.now) }
+    requires blocks { map view_block blocks.now ≡ blocks_of (function_in context.now.uses.now) }
     requires few { length blocks.now < 2 ^ 32 }
     requires count { length sources.now ≡ length blocks.now }
-    requires sources { (p : ℕ) → AreSources (function_in uses.now) p (row_at sources.now p) }
+    requires sources { (p : ℕ) → AreSources (function_in context.now.uses.now) p (row_at sources.now p) }
     requires noted { AreNoted (map view_block blocks.now) }
-    ensures least { IfOk result (IsLeast (BodyFaults (view_module kernel.now) (function_in uses.now))) }
-    ensures typed { IsTyped numbers.new scope.now }
-    ensures values { IsFor (view_module kernel.now).types values.new }
+    ensures least { IfOk result (IsLeast (BodyFaults (view_module context.now.kernel.now) (function_in context.now.uses.now))) }
+    ensures typed { IsTyped numbers.new context.now.scope.now }
+    ensures values { IsFor (view_module context.now.kernel.now).types values.new }
 {
     let mut found = None;
     for (at, block) in blocks.iter().enumerate() {
@@ -115,9 +114,7 @@ fn blocks_fault(
             alloc,
             numbers,
             values,
-            kernel,
-            scope,
-            uses,
+            context,
             &sources[at],
             at as u32,
             block,
@@ -154,8 +151,11 @@ pub fn body_fault(
     let uses = Uses::of(alloc, function, edges, order)?;
     let sources = sources_of(alloc, edges)?;
     let blocks = blocks_of(function);
-    let fault = blocks_fault(
-        alloc, numbers, values, kernel, &scope, &uses, &sources, blocks,
-    )?;
+    let context = Context {
+        kernel,
+        scope: &scope,
+        uses: &uses,
+    };
+    let fault = blocks_fault(alloc, numbers, values, &context, &sources, blocks)?;
     Ok(fault)
 }

@@ -60,7 +60,15 @@ fn looping_fault(
     Ok(fault)
 }
 
-/// The least fault of a function whose blocks have an order, given the graph of its edges.
+/// A function whose blocks have an order, with the graph of its edges.
+#[derive(Drop)]
+struct Straight<'a> {
+    function: &'a Function,
+    edges: &'a Graph,
+    order: &'a Order,
+}
+
+/// The least fault of a function whose blocks have an order.
 fn straight_fault(
     alloc: Global,
     numbers: &mut TypeNumbers,
@@ -68,31 +76,45 @@ fn straight_fault(
     kernel: &Module,
     calls: &Calls,
     place: u32,
-    function: &Function,
-    edges: &Graph,
-    order: &Order,
+    straight: &Straight<'_>,
 ) -> Result<Option<KernelFault>, AllocError>
     requires small { IsSmall kernel.now }
     requires lined { IsLined (view_module kernel.now) }
     requires own { IsFor (view_module kernel.now).types numbers.old }
     requires values { IsFor (view_module kernel.now).types values.old }
     requires calls { AreCalls (view_module kernel.now) calls.now.cyclic.items calls.now.lengths.items }
-    requires stands { slice_get (view_module kernel.now).functions place ≡ Some (function.now.name, view_function function.now) }
-    requires straight { FallsK10 (view_function function.now) → ⊥ }
-    requires few { AreFewBlocks (view_function function.now) }
-    requires edges { edges.now ≡ block_graph (view_function function.now) }
-    requires order { IsOrder edges.now order.now.nodes.items order.now.cyclic.items }
-    requires acyclic { AreClear order.now.cyclic.items }
-    requires noted { AreNoted (blocks_of (view_function function.now)) }
-    ensures least { IfOk result (IsLeast (Either (HeadFaults (view_module kernel.now) (view_function function.now)) (BodyFaults (view_module kernel.now) (view_function function.now)))) }
+    requires stands { slice_get (view_module kernel.now).functions place ≡ Some (straight.now.function.now.name, view_function straight.now.function.now) }
+    requires straight { FallsK10 (view_function straight.now.function.now) → ⊥ }
+    requires few { AreFewBlocks (view_function straight.now.function.now) }
+    requires edges { straight.now.edges.now ≡ block_graph (view_function straight.now.function.now) }
+    requires order { IsOrder straight.now.edges.now straight.now.order.now.nodes.items straight.now.order.now.cyclic.items }
+    requires acyclic { AreClear straight.now.order.now.cyclic.items }
+    requires noted { AreNoted (blocks_of (view_function straight.now.function.now)) }
+    ensures least { IfOk result (IsLeast (Either (HeadFaults (view_module kernel.now) (view_function straight.now.function.now)) (BodyFaults (view_module kernel.now) (view_function straight.now.function.now)))) }
     ensures own { IsFor (view_module kernel.now).types numbers.new }
     ensures values { IsFor (view_module kernel.now).types values.new }
 {
-    let head = head_fault(alloc, numbers, kernel, calls, place, function, false)?;
+    let head = head_fault(
+        alloc,
+        numbers,
+        kernel,
+        calls,
+        place,
+        straight.function,
+        false,
+    )?;
     match head {
         Some(fault) => Ok(Some(fault)),
         None => {
-            let body = body_fault(alloc, numbers, values, kernel, function, edges, order)?;
+            let body = body_fault(
+                alloc,
+                numbers,
+                values,
+                kernel,
+                straight.function,
+                straight.edges,
+                straight.order,
+            )?;
             Ok(body)
         }
     }
@@ -128,9 +150,12 @@ pub fn function_check(
     let order = sort(alloc, &edges)?;
     if has_order(&edges, &order) {
         let order_of_blocks = PlaceList::new(forward(alloc, &order)?);
-        let fault = straight_fault(
-            alloc, numbers, values, kernel, calls, place, function, &edges, &order,
-        )?;
+        let straight = Straight {
+            function,
+            edges: &edges,
+            order: &order,
+        };
+        let fault = straight_fault(alloc, numbers, values, kernel, calls, place, &straight)?;
         Ok(FunctionCheck {
             order: order_of_blocks,
             fault,

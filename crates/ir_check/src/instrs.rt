@@ -45,31 +45,51 @@ fn known_reason(misfit: bool, undefined: bool, outside: bool) -> Option<KernelRe
     }
 }
 
-/// The least rule that an instruction whose names are known falls under, but for the arms of a phi: `phis` says that those before it in
-/// its block are all phis.
+/// What the check of an instruction looks at: the module, the names of the function, and the uses of its registers.
+#[derive(Drop)]
+pub struct Context<'a> {
+    pub kernel: &'a Module,
+    pub scope: &'a Scope<'a>,
+    pub uses: &'a Uses<'a>,
+}
+
+/// Where an instruction stands: behind so many others of the block at a place. `phis` says that these are all phis.
+#[derive(Drop)]
+pub struct Spot {
+    pub block: u32,
+    pub place: usize,
+    pub phis: bool,
+}
+
+/// The least rule that an instruction whose names are known falls under, but for the arms of a phi.
 fn reason_of_known(
     alloc: Global,
     numbers: &mut TypeNumbers,
-    kernel: &Module,
-    scope: &Scope,
-    uses: &Uses,
-    block: u32,
-    place: usize,
-    phis: bool,
+    context: &Context<'_>,
+    spot: &Spot,
     instr: &Instr,
 ) -> Result<Option<KernelReason>, AllocError>
-    requires small { IsSmall kernel.now }
-    requires typed { IsTyped numbers.old scope.now }
+    requires small { IsSmall context.now.kernel.now }
+    requires typed { IsTyped numbers.old context.now.scope.now }
     requires noted { keeps_notes (view_op instr.now.op) ≡ true }
-    requires asked { IsAsked (view_module kernel.now) (function_in uses.now) (scoped.types_in scope.now) (scoped.function_in scope.now) }
-    requires block { block < length (blocks_of (function_in uses.now)) }
-    requires known { names.is_known (view_module kernel.now) (function_in uses.now) (view_op instr.now.op) ≡ true }
-    ensures least { (b : BlockView) → slice_get (blocks_of (function_in uses.now)) block ≡ Some b → phis ≡ list_all (λ i. is_phi i.act) (take place b.instrs) → IfOk result (IsLeastPlain (InstrFalls (view_module kernel.now) (function_in uses.now) b (take place b.instrs) (view_instr instr.now))) }
-    ensures typed { IsTyped numbers.new scope.now }
+    requires asked { IsAsked (view_module context.now.kernel.now) (function_in context.now.uses.now) (scoped.types_in context.now.scope.now) (scoped.function_in context.now.scope.now) }
+    requires block { spot.now.block < length (blocks_of (function_in context.now.uses.now)) }
+    requires known { names.is_known (view_module context.now.kernel.now) (function_in context.now.uses.now) (view_op instr.now.op) ≡ true }
+    ensures least { (b : BlockView) → slice_get (blocks_of (function_in context.now.uses.now)) spot.now.block ≡ Some b → spot.now.phis ≡ list_all (λ i. is_phi i.act) (take spot.now.place b.instrs) → IfOk result (IsLeastPlain (InstrFalls (view_module context.now.kernel.now) (function_in context.now.uses.now) b (take spot.now.place b.instrs) (view_instr instr.now))) }
+    ensures typed { IsTyped numbers.new context.now.scope.now }
 {
-    let fits = instr_fits(alloc, numbers, kernel, scope, phis, instr)?;
-    let undefined = uses.is_undefined(alloc, block, place, instr)?;
-    let outside = is_pointer_access(alloc, numbers, scope, &instr.op)?;
+    let fits = instr_fits(
+        alloc,
+        numbers,
+        context.kernel,
+        context.scope,
+        spot.phis,
+        instr,
+    )?;
+    let undefined = context
+        .uses
+        .is_undefined(alloc, spot.block, spot.place, instr)?;
+    let outside = is_pointer_access(alloc, numbers, context.scope, &instr.op)?;
     Ok(known_reason(!fits, undefined, outside))
 }
 
@@ -78,26 +98,20 @@ fn reason_of_known(
 pub fn plain_reason(
     alloc: Global,
     numbers: &mut TypeNumbers,
-    kernel: &Module,
-    scope: &Scope,
-    uses: &Uses,
-    block: u32,
-    place: usize,
-    phis: bool,
+    context: &Context<'_>,
+    spot: &Spot,
     instr: &Instr,
 ) -> Result<Option<KernelReason>, AllocError>
-    requires small { IsSmall kernel.now }
-    requires typed { IsTyped numbers.old scope.now }
+    requires small { IsSmall context.now.kernel.now }
+    requires typed { IsTyped numbers.old context.now.scope.now }
     requires noted { keeps_notes (view_op instr.now.op) ≡ true }
-    requires asked { IsAsked (view_module kernel.now) (function_in uses.now) (scoped.types_in scope.now) (scoped.function_in scope.now) }
-    requires block { block < length (blocks_of (function_in uses.now)) }
-    ensures least { (b : BlockView) → slice_get (blocks_of (function_in uses.now)) block ≡ Some b → phis ≡ list_all (λ i. is_phi i.act) (take place b.instrs) → IfOk result (IsLeastPlain (InstrFalls (view_module kernel.now) (function_in uses.now) b (take place b.instrs) (view_instr instr.now))) }
-    ensures typed { IsTyped numbers.new scope.now }
+    requires asked { IsAsked (view_module context.now.kernel.now) (function_in context.now.uses.now) (scoped.types_in context.now.scope.now) (scoped.function_in context.now.scope.now) }
+    requires block { spot.now.block < length (blocks_of (function_in context.now.uses.now)) }
+    ensures least { (b : BlockView) → slice_get (blocks_of (function_in context.now.uses.now)) spot.now.block ≡ Some b → spot.now.phis ≡ list_all (λ i. is_phi i.act) (take spot.now.place b.instrs) → IfOk result (IsLeastPlain (InstrFalls (view_module context.now.kernel.now) (function_in context.now.uses.now) b (take spot.now.place b.instrs) (view_instr instr.now))) }
+    ensures typed { IsTyped numbers.new context.now.scope.now }
 {
-    if is_known(kernel, scope, &instr.op) {
-        reason_of_known(
-            alloc, numbers, kernel, scope, uses, block, place, phis, instr,
-        )
+    if is_known(context.kernel, context.scope, &instr.op) {
+        reason_of_known(alloc, numbers, context, spot, instr)
     } else {
         Ok(Some(KernelReason::K8))
     }
@@ -115,24 +129,24 @@ fn arms_reason(meet: bool) -> Option<KernelReason>
 fn phi_reason(
     alloc: Global,
     values: &mut TypeNumbers,
-    kernel: &Module,
-    uses: &Uses,
+    context: &Context<'_>,
     sources: &Tally,
     block: u32,
     over: &IrType,
     arms: &ArmList,
 ) -> Result<Option<KernelReason>, AllocError>
-    requires small { IsSmall kernel.now }
-    requires few { AreFewBlocks (function_in uses.now) }
-    requires values { IsFor (view_module kernel.now).types values.old }
-    requires sources { AreSources (function_in uses.now) block sources.now }
-    ensures arms { (b : BlockView) → slice_get (blocks_of (function_in uses.now)) block ≡ Some b → IsDistinct bytes_eq (names_of (sites_of (function_in uses.now))) → names.is_known (view_module kernel.now) (function_in uses.now) (phi (view_type over.now) (view_arms arms.now.items.items)) ≡ true → IfOk result (IsArmsReason (FallsK15 (view_module kernel.now).types (function_in uses.now) b (phi (view_type over.now) (view_arms arms.now.items.items)))) }
-    ensures values { IsFor (view_module kernel.now).types values.new }
+    requires small { IsSmall context.now.kernel.now }
+    requires few { AreFewBlocks (function_in context.now.uses.now) }
+    requires values { IsFor (view_module context.now.kernel.now).types values.old }
+    requires sources { AreSources (function_in context.now.uses.now) block sources.now }
+    ensures arms { (b : BlockView) → slice_get (blocks_of (function_in context.now.uses.now)) block ≡ Some b → IsDistinct bytes_eq (names_of (sites_of (function_in context.now.uses.now))) → names.is_known (view_module context.now.kernel.now) (function_in context.now.uses.now) (phi (view_type over.now) (view_arms arms.now.items.items)) ≡ true → IfOk result (IsArmsReason (FallsK15 (view_module context.now.kernel.now).types (function_in context.now.uses.now) b (phi (view_type over.now) (view_arms arms.now.items.items)))) }
+    ensures values { IsFor (view_module context.now.kernel.now).types values.new }
 {
-    let index = uses.blocks();
+    let index = context.uses.blocks();
     index.len();
     let arms = arms.items.as_slice();
-    let meet = arms_meet(alloc, values, &kernel.types, over, index, sources, arms)?;
+    let types = &context.kernel.types;
+    let meet = arms_meet(alloc, values, types, over, index, sources, arms)?;
     Ok(arms_reason(meet))
 }
 
@@ -140,23 +154,20 @@ fn phi_reason(
 fn reason_of_arms(
     alloc: Global,
     values: &mut TypeNumbers,
-    kernel: &Module,
-    uses: &Uses,
+    context: &Context<'_>,
     sources: &Tally,
     block: u32,
     op: &Op,
 ) -> Result<Option<KernelReason>, AllocError>
-    requires small { IsSmall kernel.now }
-    requires few { AreFewBlocks (function_in uses.now) }
-    requires values { IsFor (view_module kernel.now).types values.old }
-    requires sources { AreSources (function_in uses.now) block sources.now }
-    ensures arms { (b : BlockView) → slice_get (blocks_of (function_in uses.now)) block ≡ Some b → IsDistinct bytes_eq (names_of (sites_of (function_in uses.now))) → names.is_known (view_module kernel.now) (function_in uses.now) (view_op op.now) ≡ true → IfOk result (IsArmsReason (FallsK15 (view_module kernel.now).types (function_in uses.now) b (view_op op.now))) }
-    ensures values { IsFor (view_module kernel.now).types values.new }
+    requires small { IsSmall context.now.kernel.now }
+    requires few { AreFewBlocks (function_in context.now.uses.now) }
+    requires values { IsFor (view_module context.now.kernel.now).types values.old }
+    requires sources { AreSources (function_in context.now.uses.now) block sources.now }
+    ensures arms { (b : BlockView) → slice_get (blocks_of (function_in context.now.uses.now)) block ≡ Some b → IsDistinct bytes_eq (names_of (sites_of (function_in context.now.uses.now))) → names.is_known (view_module context.now.kernel.now) (function_in context.now.uses.now) (view_op op.now) ≡ true → IfOk result (IsArmsReason (FallsK15 (view_module context.now.kernel.now).types (function_in context.now.uses.now) b (view_op op.now))) }
+    ensures values { IsFor (view_module context.now.kernel.now).types values.new }
 {
     match op {
-        Op::Phi { over, arms } => {
-            phi_reason(alloc, values, kernel, uses, sources, block, over, arms)
-        }
+        Op::Phi { over, arms } => phi_reason(alloc, values, context, sources, block, over, arms),
         _ => Ok(None),
     }
 }
@@ -166,33 +177,27 @@ pub fn instr_reason(
     alloc: Global,
     numbers: &mut TypeNumbers,
     values: &mut TypeNumbers,
-    kernel: &Module,
-    scope: &Scope,
-    uses: &Uses,
+    context: &Context<'_>,
     sources: &Tally,
-    block: u32,
-    place: usize,
-    phis: bool,
+    spot: &Spot,
     instr: &Instr,
 ) -> Result<Option<KernelReason>, AllocError>
-    requires small { IsSmall kernel.now }
-    requires typed { IsTyped numbers.old scope.now }
-    requires values { IsFor (view_module kernel.now).types values.old }
+    requires small { IsSmall context.now.kernel.now }
+    requires typed { IsTyped numbers.old context.now.scope.now }
+    requires values { IsFor (view_module context.now.kernel.now).types values.old }
     requires noted { keeps_notes (view_op instr.now.op) ≡ true }
-    requires asked { IsAsked (view_module kernel.now) (function_in uses.now) (scoped.types_in scope.now) (scoped.function_in scope.now) }
-    requires block { block < length (blocks_of (function_in uses.now)) }
-    requires sources { AreSources (function_in uses.now) block sources.now }
-    ensures least { (b : BlockView) → slice_get (blocks_of (function_in uses.now)) block ≡ Some b → phis ≡ list_all (λ i. is_phi i.act) (take place b.instrs) → IfOk result (IsLeastReason (InstrFalls (view_module kernel.now) (function_in uses.now) b (take place b.instrs) (view_instr instr.now))) }
-    ensures typed { IsTyped numbers.new scope.now }
-    ensures values { IsFor (view_module kernel.now).types values.new }
+    requires asked { IsAsked (view_module context.now.kernel.now) (function_in context.now.uses.now) (scoped.types_in context.now.scope.now) (scoped.function_in context.now.scope.now) }
+    requires block { spot.now.block < length (blocks_of (function_in context.now.uses.now)) }
+    requires sources { AreSources (function_in context.now.uses.now) spot.now.block sources.now }
+    ensures least { (b : BlockView) → slice_get (blocks_of (function_in context.now.uses.now)) spot.now.block ≡ Some b → spot.now.phis ≡ list_all (λ i. is_phi i.act) (take spot.now.place b.instrs) → IfOk result (IsLeastReason (InstrFalls (view_module context.now.kernel.now) (function_in context.now.uses.now) b (take spot.now.place b.instrs) (view_instr instr.now))) }
+    ensures typed { IsTyped numbers.new context.now.scope.now }
+    ensures values { IsFor (view_module context.now.kernel.now).types values.new }
 {
-    let plain = plain_reason(
-        alloc, numbers, kernel, scope, uses, block, place, phis, instr,
-    )?;
+    let plain = plain_reason(alloc, numbers, context, spot, instr)?;
     match plain {
         Some(reason) => Ok(Some(reason)),
         None => {
-            let arms = reason_of_arms(alloc, values, kernel, uses, sources, block, &instr.op)?;
+            let arms = reason_of_arms(alloc, values, context, sources, spot.block, &instr.op)?;
             Ok(arms)
         }
     }

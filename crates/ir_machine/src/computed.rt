@@ -275,26 +275,32 @@ fn loaded_from(
     }
 }
 
-fn loaded(
-    memory: &KMemory,
-    objects: &Seq<Object>,
+/// What a load from memory gives: a number of this width in so many bytes, in one of the spans.
+#[derive(Drop)]
+struct Load<'a> {
     width: u32,
     bytes: u32,
     align: u64,
-    spans: &Option<Seq<Span>>,
+    spans: &'a Option<Seq<Span>>,
+}
+
+fn loaded(
+    memory: &KMemory,
+    objects: &Seq<Object>,
+    load: &Load<'_>,
     address: Option<Value>,
 ) -> Computed
-    ensures { result ≡ definition.loaded memory.now objects.now width bytes align spans.now address }
+    ensures { result ≡ definition.loaded memory.now objects.now load.now.width load.now.bytes load.now.align load.now.spans.now address }
 {
     match address {
         Some(address) => {
-            if are_bytes(bytes) {
+            if are_bytes(load.bytes) {
                 loaded_from(
                     memory,
-                    width,
-                    bytes,
-                    spans,
-                    reached(memory, objects, bytes, align, address),
+                    load.width,
+                    load.bytes,
+                    load.spans,
+                    reached(memory, objects, load.bytes, load.align, address),
                 )
             } else {
                 Computed::Lost
@@ -422,15 +428,15 @@ pub(crate) fn computed(
             align,
             spans,
             address,
-        } => loaded(
-            memory,
-            objects,
-            *width,
-            *bytes,
-            *align,
-            spans,
-            value_of(memory, registers, address),
-        ),
+        } => {
+            let load = Load {
+                width: *width,
+                bytes: *bytes,
+                align: *align,
+                spans,
+            };
+            loaded(memory, objects, &load, value_of(memory, registers, address))
+        }
         Act::LoadSlot {
             width,
             align,

@@ -22,27 +22,42 @@ use ir_ast::{Instr, IrType, Module, Name, Op, Operand, TypedList};
 use ir_whole::TypeNumbers;
 use std::alloc::{AllocError, Global};
 
+/// What a load says.
+#[derive(Drop)]
+struct Load<'a> {
+    over: &'a IrType,
+    address: &'a Operand,
+    align: u64,
+    range: &'a Option<Name>,
+}
+
 /// Whether a load takes its address, its alignment and its range.
 fn load_fits(
     alloc: Global,
     numbers: &mut TypeNumbers,
     module: &Module,
     scope: &Scope,
-    over: &IrType,
-    address: &Operand,
-    align: u64,
-    range: &Option<Name>,
+    load: &Load<'_>,
 ) -> Result<bool, AllocError>
     requires typed { IsTyped numbers.old scope.now }
     requires small { IsSmall «module».now }
-    ensures fits { IfOk result (λ r. r ≡ (definition.access_fits (scope_in scope.now) (view_type over.now) (view_operand address.now) align && definition.range_fits (types_in scope.now) (view_module «module».now) (view_type over.now) range.now)) }
+    ensures fits { IfOk result (λ r. r ≡ (definition.access_fits (scope_in scope.now) (view_type load.now.over.now) (view_operand load.now.address.now) load.now.align && definition.range_fits (types_in scope.now) (view_module «module».now) (view_type load.now.over.now) load.now.range.now)) }
     ensures typed { IsTyped numbers.new scope.now }
 {
-    if !access_fits(alloc, numbers, scope, over, address, align)? {
+    if !access_fits(alloc, numbers, scope, load.over, load.address, load.align)? {
         return Ok(false);
     }
-    let fits = named_range_fits(alloc, numbers, module, scope, over, range)?;
+    let fits = named_range_fits(alloc, numbers, module, scope, load.over, load.range)?;
     Ok(fits)
+}
+
+/// What a call says, and whether its result has a name.
+#[derive(Drop)]
+struct Call<'a> {
+    named: bool,
+    gives: &'a IrType,
+    callee: &'a Name,
+    arguments: &'a TypedList,
 }
 
 /// Whether a call gives what it is asked for, and agrees with the function that it names.
@@ -51,20 +66,25 @@ fn named_call_fits(
     numbers: &mut TypeNumbers,
     module: &Module,
     scope: &Scope,
-    named: bool,
-    gives: &IrType,
-    callee: &Name,
-    arguments: &TypedList,
+    call: &Call<'_>,
 ) -> Result<bool, AllocError>
     requires typed { IsTyped numbers.old scope.now }
     requires small { IsSmall «module».now }
-    ensures fits { IfOk result (λ r. r ≡ (not (is_void (view_type gives.now) && named) && definition.call_fits (types_in scope.now) (view_type gives.now) callee.now (map (λ a. a.0) (view_typed arguments.now.items.items)) (function_of (view_module «module».now) callee.now))) }
+    ensures fits { IfOk result (λ r. r ≡ (not (is_void (view_type call.now.gives.now) && call.now.named) && definition.call_fits (types_in scope.now) (view_type call.now.gives.now) call.now.callee.now (map (λ a. a.0) (view_typed call.now.arguments.now.items.items)) (function_of (view_module «module».now) call.now.callee.now))) }
     ensures typed { IsTyped numbers.new scope.now }
 {
-    if matches!(gives, IrType::Void) && named {
+    if matches!(call.gives, IrType::Void) && call.named {
         return Ok(false);
     }
-    let fits = call_fits(alloc, numbers, module, scope, gives, callee, arguments)?;
+    let fits = call_fits(
+        alloc,
+        numbers,
+        module,
+        scope,
+        call.gives,
+        call.callee,
+        call.arguments,
+    )?;
     Ok(fits)
 }
 
@@ -92,7 +112,15 @@ fn further_fits(
             address,
             align,
             range,
-        } => load_fits(alloc, numbers, module, scope, over, address, *align, range),
+        } => {
+            let load = Load {
+                over,
+                address,
+                align: *align,
+                range,
+            };
+            load_fits(alloc, numbers, module, scope, &load)
+        }
         Op::Store {
             over,
             address,
@@ -103,9 +131,15 @@ fn further_fits(
             result,
             callee,
             arguments,
-        } => named_call_fits(
-            alloc, numbers, module, scope, named, result, callee, arguments,
-        ),
+        } => {
+            let call = Call {
+                named,
+                gives: result,
+                callee,
+                arguments,
+            };
+            named_call_fits(alloc, numbers, module, scope, &call)
+        }
         Op::Extract { width, from, .. } => pair_fits(alloc, numbers, scope, *width, from),
         Op::Switch { width, cases, .. } => cases_fit(alloc, *width, cases),
         Op::Return { over, .. } => same_type(alloc, numbers, scope, over, &scope.function().result),

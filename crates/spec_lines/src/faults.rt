@@ -390,8 +390,9 @@ fn is_s15(text: &Text, kernel: &KernelNames<'_>, item: &RawItem) -> bool
     }
 }
 
-/// The first of these reasons that holds.
-fn first_late(
+/// Which reasons above that of a width that does not fit hold of a line.
+#[derive(Clone, Copy)]
+struct LateReasons {
     s9: bool,
     s10: bool,
     s11: bool,
@@ -399,22 +400,25 @@ fn first_late(
     s13: bool,
     s14: bool,
     s15: bool,
-) -> Option<SpecReason>
-    ensures { result ≡ lines.first_late s9 s10 s11 s12 s13 s14 s15 }
+}
+
+/// The first of these reasons that holds.
+fn first_late(holds: LateReasons) -> Option<SpecReason>
+    ensures { result ≡ lines.first_late holds.s9 holds.s10 holds.s11 holds.s12 holds.s13 holds.s14 holds.s15 }
 {
-    if s9 {
+    if holds.s9 {
         Some(SpecReason::S9)
-    } else if s10 {
+    } else if holds.s10 {
         Some(SpecReason::S10)
-    } else if s11 {
+    } else if holds.s11 {
         Some(SpecReason::S11)
-    } else if s12 {
+    } else if holds.s12 {
         Some(SpecReason::S12)
-    } else if s13 {
+    } else if holds.s13 {
         Some(SpecReason::S13)
-    } else if s14 {
+    } else if holds.s14 {
         Some(SpecReason::S14)
-    } else if s15 {
+    } else if holds.s15 {
         Some(SpecReason::S15)
     } else {
         None
@@ -433,13 +437,13 @@ pub fn late(
 {
     let s9 = is_s9(alloc, text, here, item)?;
     let s12 = is_s12(alloc, here, item, found.wide)?;
-    Ok(first_late(
+    Ok(first_late(LateReasons {
         s9,
-        is_s10(here, item),
-        is_s11(here, item),
+        s10: is_s10(here, item),
+        s11: is_s11(here, item),
         s12,
-        is_s13(here, item),
-        is_s14(here, item),
-        is_s15(text, here.scope.kernel, item),
-    ))
+        s13: is_s13(here, item),
+        s14: is_s14(here, item),
+        s15: is_s15(text, here.scope.kernel, item),
+    }))
 }

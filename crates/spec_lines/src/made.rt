@@ -275,29 +275,35 @@ fn result_width(width: Option<u32>) -> u32
     }
 }
 
+/// A transition that ends: the name of the state that it returns, its head, and the place of its function.
+#[derive(Clone, Copy)]
+struct Ended<'a> {
+    state: &'a [u8],
+    head: &'a Head<'a>,
+    place: u32,
+}
+
 /// The transition that ends, with these lines.
 fn transition_with(
     alloc: Global,
     here: &Here<'_>,
     lines: Vec<Line>,
-    state: &[u8],
-    head: &Head<'_>,
-    place: u32,
+    ended: &Ended<'_>,
     valid: Expr,
     r: Option<Expr>,
 ) -> Result<Transition, AllocError>
-    ensures { IfOk result (λ t. view_transition t ≡ definition.transition_with (view_here here.now) (map view_line lines.items) state.now (view_head head.now) place (view_expr valid) (option_map view_expr r)) }
+    ensures { IfOk result (λ t. view_transition t ≡ definition.transition_with (view_here here.now) (map view_line lines.items) ended.now.state.now (view_head ended.now.head.now) ended.now.place (view_expr valid) (option_map view_expr r)) }
 {
-    let name = Name::copy_of(alloc, head.name)?;
-    let widths = widths_of(alloc, types_of(here.scope.kernel, head.name))?;
+    let name = Name::copy_of(alloc, ended.head.name)?;
+    let widths = widths_of(alloc, types_of(here.scope.kernel, ended.head.name))?;
     Ok(Transition {
-        line: head.line,
+        line: ended.head.line,
         name,
-        function: place,
+        function: ended.place,
         widths: SizeList::of(widths),
         lines: LineList::of(lines),
         valid,
-        returns_new: is_new(here.scope.meaning(state)),
+        returns_new: is_new(here.scope.meaning(ended.state)),
         result: r,
         result_width: result_width(here.result),
     })
@@ -318,7 +324,8 @@ impl Made {
         ensures { OnOk result (view_made self.new ≡ definition.with_transition (view_here here.now) (view_made self.old) state.now (view_head head.now) place (view_expr valid) (option_map view_expr r)) }
     {
         let lines = mem::replace(&mut self.lines, Vec::new(alloc));
-        let made = transition_with(alloc, here, lines, state, head, place, valid, r)?;
+        let ended = Ended { state, head, place };
+        let made = transition_with(alloc, here, lines, &ended, valid, r)?;
         self.transitions.push(made)?;
         Ok(())
     }

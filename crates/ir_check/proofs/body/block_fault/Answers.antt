@@ -19,14 +19,14 @@ instr_reason-requires-clause-noted c =
     c.requires.noted
 
 pub instr_reason-requires-clause-block : goal.instr_reason-requires-clause-block
-instr_reason-requires-clause-block c = get_below (blocks_of (function_in c.args.uses.now)) c.args.at (view_block c.args.block.now) c.requires.stands
+instr_reason-requires-clause-block c = get_below (blocks_of (function_in c.args.context.now.uses.now)) c.args.at (view_block c.args.block.now) c.requires.stands
 
 pub loop-place-preserved : goal.loop-place-preserved
 loop-place-preserved c =
     let there = slice_at view_instr c.args.block.now.instrs.items.items c.as_slice-instrs.result.now c.loop-place.place c.index-instrs-place.result c.as_slice-instrs.ensures.value (omega arith) c.index-instrs-place.is in record {
       typed = c.in_ok-reason.ensures.typed;
       values = c.in_ok-reason.ensures.values;
-      found = instr_next (view_module c.args.kernel.now) (function_in c.args.uses.now) (view_block c.args.block.now) c.loop-place.place (view_instr c.index-instrs-place.result) c.loop-place.found
+      found = instr_next (view_module c.args.context.now.kernel.now) (function_in c.args.context.now.uses.now) (view_block c.args.block.now) c.loop-place.place (view_instr c.index-instrs-place.result) c.loop-place.found
           c.on_line.result c.least-found.result c.in_ok-reason.reason there c.loop-place.invariant.found
           (c.in_ok-reason.ensures.least (view_block c.args.block.now) c.requires.stands c.loop-place.invariant.phis) c.on_line.ensures c.least-found.ensures;
       phis = phis_next (view_block c.args.block.now).instrs c.loop-place.place (view_instr c.index-instrs-place.result) c.loop-place.phis (is_phi (view_instr c.index-instrs-place.result).act) c.are_phis-phis.result
@@ -36,6 +36,6 @@ loop-place-preserved c =
 pub returns-clause-least : goal.returns-clause-least
 returns-clause-least c =
     let most : length c.as_slice-instrs.result.now ≤ c.loop-place.place = omega arith in
-    instrs_done (view_module c.args.kernel.now) (function_in c.args.uses.now) c.args.at (view_block c.args.block.now) c.loop-place.place c.loop-place.found c.requires.stands
+    instrs_done (view_module c.args.context.now.kernel.now) (function_in c.args.context.now.uses.now) c.args.at (view_block c.args.block.now) c.loop-place.place c.loop-place.found c.requires.stands
     (subst (λ n. n ≤ c.loop-place.place) (sym (length-map c.args.block.now.instrs.items.items view_instr))
     (subst (λ is. length is ≤ c.loop-place.place) c.as_slice-instrs.ensures.value most)) c.loop-place.invariant.found

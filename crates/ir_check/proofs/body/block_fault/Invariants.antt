@@ -11,8 +11,8 @@ use Rattle.ir_check.proofs.body.block_fault.Given as goal
 
 abbrev pub invariant-loop-place : goal.invariant-loop-place
 invariant-loop-place l = record {
-  typed : IsTyped l.numbers l.scope;
-  values : IsFor (view_module l.kernel).types l.values;
-  found : IsLeast (AmongFirst (InstrFaultsAt (view_module l.kernel) (function_in l.uses) (view_block l.block)) l.place) l.found;
+  typed : IsTyped l.numbers l.context.scope.now;
+  values : IsFor (view_module l.context.kernel.now).types l.values;
+  found : IsLeast (AmongFirst (InstrFaultsAt (view_module l.context.kernel.now) (function_in l.context.uses.now) (view_block l.block)) l.place) l.found;
   phis : l.phis ≡ list_all (λ i. is_phi i.act) (take l.place (view_block l.block).instrs);
 }

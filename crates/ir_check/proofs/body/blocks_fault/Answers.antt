@@ -12,13 +12,13 @@ pub loop-at-preserved : goal.loop-at-preserved
 loop-at-preserved c = record {
   typed = c.in_ok-fault.ensures.typed;
   values = c.in_ok-fault.ensures.values;
-  found = block_next (view_module c.args.kernel.now) (function_in c.args.uses.now) c.loop-at.at c.loop-at.found c.in_ok-fault.fault c.least-found.result c.loop-at.invariant.found c.in_ok-fault.ensures.least c.least-found.ensures;
+  found = block_next (view_module c.args.context.now.kernel.now) (function_in c.args.context.now.uses.now) c.loop-at.at c.loop-at.found c.in_ok-fault.fault c.least-found.result c.loop-at.invariant.found c.in_ok-fault.ensures.least c.least-found.ensures;
 }
 
 pub returns-clause-least : goal.returns-clause-least
 returns-clause-least c =
     let most : length c.args.blocks.now ≤ c.loop-at.at = omega arith in
-    blocks_done (view_module c.args.kernel.now) (function_in c.args.uses.now) c.loop-at.at c.loop-at.found
+    blocks_done (view_module c.args.context.now.kernel.now) (function_in c.args.context.now.uses.now) c.loop-at.at c.loop-at.found
     (subst (λ n. n ≤ c.loop-at.at) (sym (ap length (sym c.requires.blocks) ∙ length-map c.args.blocks.now view_block)) most) c.loop-at.invariant.found
 
 pub block_fault-requires-clause-noted : goal.block_fault-requires-clause-noted

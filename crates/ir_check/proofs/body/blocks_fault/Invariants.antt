@@ -8,7 +8,7 @@ use Rattle.ir_check.proofs.body.blocks_fault.Given as goal
 
 abbrev pub invariant-loop-at : goal.invariant-loop-at
 invariant-loop-at l = record {
-  typed : IsTyped l.numbers l.scope;
-  values : IsFor (view_module l.kernel).types l.values;
-  found : IsLeast (AmongFirst (BlockFaultsAt (view_module l.kernel) (function_in l.uses)) l.at) l.found;
+  typed : IsTyped l.numbers l.context.scope.now;
+  values : IsFor (view_module l.context.kernel.now).types l.values;
+  found : IsLeast (AmongFirst (BlockFaultsAt (view_module l.context.kernel.now) (function_in l.context.uses.now)) l.at) l.found;
 }

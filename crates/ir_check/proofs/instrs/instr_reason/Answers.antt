@@ -8,6 +8,6 @@ use Rattle.ir_check.proofs.instrs.instr_reason.Goals as goal
 pub returns-in_ok-arms-in-None-clause-least : goal.returns-in_ok-arms-in-None-clause-least
 returns-in_ok-arms-in-None-clause-least c = λ b there are.
     let least = c.in_ok-plain.ensures.least b there are in
-    whole_least (InstrFalls (view_module c.args.kernel.now) (function_in c.args.uses.now) b (take c.args.place b.instrs) (view_instr c.args.instr.now)) c.in_ok-plain.plain c.in_ok-arms-in-None.arms c.in-None.is least
+    whole_least (InstrFalls (view_module c.args.context.now.kernel.now) (function_in c.args.context.now.uses.now) b (take c.args.spot.now.place b.instrs) (view_instr c.args.instr.now)) c.in_ok-plain.plain c.in_ok-arms-in-None.arms c.in-None.is least
     (c.in_ok-arms-in-None.ensures.arms b there c.requires.asked.distinct
-    (plain_known (view_module c.args.kernel.now) (function_in c.args.uses.now) b (take c.args.place b.instrs) (view_instr c.args.instr.now) c.in_ok-plain.plain c.in-None.is least))
+    (plain_known (view_module c.args.context.now.kernel.now) (function_in c.args.context.now.uses.now) b (take c.args.spot.now.place b.instrs) (view_instr c.args.instr.now) c.in_ok-plain.plain c.in-None.is least))
