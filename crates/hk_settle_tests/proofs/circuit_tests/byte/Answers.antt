@@ -1,4 +1,0 @@
-use Rattle.hk_settle_tests.proofs.circuit_tests.byte.Goals as goal
-
-pub returns-clause-within : goal.returns-clause-within
-returns-clause-within c = c.in_ok-word.ensures.within c.args.gates.now.vars c.requires

@@ -1,5 +1,0 @@
-use Rattle.hk_num.proofs.Words.{ones}
-use Rattle.hk_term_tests.proofs.simplify_tests.greatest.Goals as goal
-
-pub returns : goal.returns
-returns c = ones c.args.w c.requires.1
