@@ -4,7 +4,6 @@ ghost use Rattle.std.specs.Prelude.{◌≡◌, ◌≤◌, ◌<◌, ℕ, ℤ, Boo
 ghost use Rattle.hk_cnf.specs.Literal.{IsWithin, place_of};
 ghost use Rattle.hk_cnf.specs.Circuit.{gate_value};
 
-use crate::row::long;
 use crate::word::{number, number_text};
 use hk_circuit::bit::full_add;
 use hk_circuit::bitwise::{and_words, or_words, xor_words};
@@ -13,6 +12,7 @@ use hk_circuit::multiply::multiply;
 use hk_circuit::shift::{shift_left, shift_right_signed};
 use hk_circuit::word::{number_word, sign_extend, zero_extend};
 use hk_cnf::{Gates, Lit};
+use hk_term_rows::long;
 use std::alloc::{AllocError, Global};
 
 /// The word of a number of width 8.

@@ -1,7 +1,7 @@
 //! Instances as rows write them: `pair A B` of two reads, and `tuple Q I ..` of a quantifier.
 
-use crate::row::long;
 use hk_inst::{Instance, InstanceList, Question, SizeList};
+use hk_term_rows::long;
 use std::alloc::{AllocError, Global};
 
 /// Adds instances. It is told whether each was accepted.

@@ -30,7 +30,6 @@ mod guess;
 mod instances;
 mod product;
 mod questions;
-mod row;
 mod settling;
 mod word;
 
@@ -38,8 +37,8 @@ use crate::blasted::{back_answer, blast_answer, counts_answer};
 use crate::circuits::{circuit_answer, gates_answer};
 use crate::product::product_answer;
 use crate::questions::{add_answer, complete_answer, holds_answer, violated_answer};
-use crate::row::fields_of;
 use crate::settling::{figures_answer, settle_answer, within_answer};
+use hk_term_rows::fields_of;
 use std::alloc::{AllocError, Global};
 use std::io;
 

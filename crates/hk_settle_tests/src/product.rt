@@ -4,11 +4,11 @@ ghost use Rattle.std.specs.Prelude.{◌≡◌, ◌<◌, ℕ, length, All, IfOk};
 ghost use Rattle.hk_cnf.specs.Literal.{IsWithin};
 
 use crate::blasted::word_at;
-use crate::row::long;
 use hk_blast::{BitTable, blast};
 use hk_circuit::word::complement;
 use hk_cnf::{ClauseList, Gates, Lit};
 use hk_term::{Node, TermId, TermKind, Terms};
+use hk_term_rows::long;
 use std::alloc::{AllocError, Global};
 
 /// Two variables and a product over them.

@@ -17,7 +17,11 @@ pub fn end(question: Question) -> (usize, u64) {
 }
 
 /// Whether a goal is true under a valuation.
-pub fn holds_answer(alloc: Global, goal: &str, numbers: &str) -> Result<Option<String>, AllocError> {
+pub fn holds_answer(
+    alloc: Global,
+    goal: &str,
+    numbers: &str,
+) -> Result<Option<String>, AllocError> {
     let Some(v) = valuation_of(alloc, numbers)? else {
         return Ok(None);
     };

@@ -5,11 +5,11 @@ ghost use Rattle.std.specs.Prelude.{◌≤◌};
 use crate::goal::question_of;
 use crate::instances::add_all;
 use crate::questions::end;
-use crate::row::long;
 use hk_inst::{InstanceList, Question};
 use hk_lrat::{LratLog, refutes};
 use hk_settle::{Settled, settle, settle_with_figures};
 use hk_term::Valuation;
+use hk_term_rows::long;
 use std::alloc::{AllocError, Global};
 
 /// Whether the goal is true under a valuation.
@@ -73,7 +73,11 @@ fn settled(
 }
 
 /// What a goal comes to.
-pub fn settle_answer(alloc: Global, budget: &str, goal: &str) -> Result<Option<String>, AllocError> {
+pub fn settle_answer(
+    alloc: Global,
+    budget: &str,
+    goal: &str,
+) -> Result<Option<String>, AllocError> {
     let budget = long(budget).unwrap_or(0);
     if budget == 0 {
         return Ok(None);

@@ -3,7 +3,8 @@
 use crate::build::{
     Making, chosen, cut, entry, extended, joined, number, quantified, taken, turned, variable,
 };
-use crate::words::{kind_of, long, short, two};
+use crate::row::{long, short};
+use crate::words::{kind_of, two};
 use hk_term::{Bound, BoundList, TermId, TermKind, Terms, UnaryKind};
 use std::alloc::{AllocError, Global};
 

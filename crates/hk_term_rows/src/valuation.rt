@@ -1,6 +1,6 @@
 //! Valuations that a row writes, and the values of terms under them.
 
-use crate::words::{long, short};
+use crate::row::{long, short};
 use hk_term::{TermId, Terms, Valuation, ValueRoom};
 use std::alloc::{AllocError, Global};
 

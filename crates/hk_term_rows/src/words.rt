@@ -1,5 +1,6 @@
-//! The words for operations, and the numbers in words.
+//! The words for operations, and two numbers in a word.
 
+use crate::row::short;
 use hk_term::TermKind;
 
 /// The operations on two terms, each with its word.
@@ -41,16 +42,6 @@ pub fn word_of(kind: TermKind) -> &'static str {
         }
     }
     ""
-}
-
-/// A number of 32 bits.
-pub fn short(word: &str) -> Option<u32> {
-    word.parse::<u32>().ok()
-}
-
-/// A number of 64 bits.
-pub fn long(word: &str) -> Option<u64> {
-    word.parse::<u64>().ok()
 }
 
 /// Two numbers of 32 bits, with a colon between.

@@ -11,10 +11,9 @@ ghost use Rattle.hk_term.specs.declared.node.Node.{Node};
 ghost use Rattle.hk_copy.specs.Stands.{is_bound, IsApart, HasWidth};
 ghost use Rattle.hk_copy.specs.Copies.{AreReady};
 
-use crate::row::{long, short};
 use hk_copy::{Stand, copy};
 use hk_term::{Bound, Node, TermId, Terms, Valuation};
-use hk_term_rows::{Making, term_of, value_at, written};
+use hk_term_rows::{Making, long, short, term_of, value_at, written};
 use std::alloc::{AllocError, Global};
 
 /// What a word lets a variable stand for.

@@ -1,8 +1,7 @@
 //! What a list of terms keeps, and what a valuation keeps.
 
-use crate::row::{long, short};
 use hk_term::{TermId, Terms, Valuation};
-use hk_term_rows::{Making, term_of, valuation_of, written};
+use hk_term_rows::{Making, long, short, term_of, valuation_of, written};
 use std::alloc::{AllocError, Global};
 
 /// The places of terms in a list, and how many nodes it has with them.

@@ -19,8 +19,7 @@
 //!   grows by, and the part, and then of the term and the complement under the other numbers, all by one room.
 //!
 //! The answers are those of SMT-LIB's operations on whole numbers, found by Z3 and Python, and the nodes that the rules of simplification
-//! name. The crate's tests are those of symbolic values, and a sum whose laws follow from
-//! the clauses of the constructors alone.
+//! name. The crate's tests are those of symbolic values, and a sum whose laws follow from the clauses of the constructors alone.
 #![tactic(auto)]
 
 #[cfg(test)]
@@ -29,7 +28,6 @@ mod copies;
 mod lists;
 mod operations;
 mod room;
-mod row;
 #[cfg(test)]
 mod symvalue_tests;
 
@@ -37,8 +35,7 @@ use crate::copies::{copied_answer, copy_answer, deep_answer};
 use crate::lists::{cut_answer, numbers_answer, places_answer};
 use crate::operations::{built_answer, operations_answer, value_answer};
 use crate::room::room_answer;
-use crate::row::fields_of;
-use hk_term_rows::Making;
+use hk_term_rows::{Making, fields_of};
 use std::alloc::{AllocError, Global};
 use std::io;
 

@@ -11,7 +11,12 @@ pub fn fields_of<'r>(alloc: Global, row: &'r str) -> Result<Vec<&'r str>, AllocE
     Ok(fields)
 }
 
+/// A number of 32 bits.
+pub fn short(word: &str) -> Option<u32> {
+    word.parse::<u32>().ok()
+}
+
 /// A number of 64 bits.
-pub fn long(field: &str) -> Option<u64> {
-    field.parse::<u64>().ok()
+pub fn long(word: &str) -> Option<u64> {
+    word.parse::<u64>().ok()
 }
