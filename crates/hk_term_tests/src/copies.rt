@@ -229,10 +229,12 @@ pub fn copy_answer(alloc: Global, text: &str, stands: &str) -> Result<Option<Str
         return Ok(None);
     };
     let mut terms = Terms::new(alloc);
-    let told = match copied(alloc, &mut terms, text, &stands)? {
-        Some((term, Some(made))) => agree(alloc, &terms, (made, term), &stands)?,
-        Some((_, None)) => "captured",
-        None => return Ok(None),
+    let Some((term, made)) = copied(alloc, &mut terms, text, &stands)? else {
+        return Ok(None);
+    };
+    let told = match made {
+        Some(made) => agree(alloc, &terms, (made, term), &stands)?,
+        None => "captured",
     };
     Ok(Some(String::from_str(alloc, told)?))
 }
@@ -247,12 +249,13 @@ pub fn copied_answer(
         return Ok(None);
     };
     let mut terms = Terms::new(alloc);
-    let told = match copied(alloc, &mut terms, text, &stands)? {
-        Some((_, Some(made))) => written(alloc, &terms, made)?,
-        Some((_, None)) => String::from_str(alloc, "captured")?,
-        None => return Ok(None),
+    let Some((_, made)) = copied(alloc, &mut terms, text, &stands)? else {
+        return Ok(None);
     };
-    Ok(Some(told))
+    match made {
+        Some(made) => Ok(Some(written(alloc, &terms, made)?)),
+        None => Ok(Some(String::from_str(alloc, "captured")?)),
+    }
 }
 
 /// A word so many times.

@@ -70,18 +70,53 @@ fn served(
     Ok(Some(numbers))
 }
 
-/// The same of terms and valuations that a row writes.
-fn numbers_of(
+/// Three pairs of numbers as text.
+fn shown(alloc: Global, numbers: [[u64; 2]; 3]) -> Result<String, AllocError> {
+    let [[a, b], [c, d], [e, f]] = numbers;
+    format!(in alloc; "{a} {b}, {c} {d}, {e} {f}")
+}
+
+/// The same under a second valuation that a row writes.
+fn under_both(
+    alloc: Global,
+    terms: &mut Terms,
+    pair: (TermId, TermId),
+    v: &Valuation,
+    others: &str,
+) -> Result<Option<String>, AllocError> {
+    let Some(other) = valuation_of(alloc, others)? else {
+        return Ok(None);
+    };
+    match served(alloc, terms, pair, v, &other)? {
+        Some(numbers) => Ok(Some(shown(alloc, numbers)?)),
+        None => Ok(None),
+    }
+}
+
+/// The same under two valuations that a row writes.
+fn under(
+    alloc: Global,
+    terms: &mut Terms,
+    pair: (TermId, TermId),
+    numbers: &str,
+    others: &str,
+) -> Result<Option<String>, AllocError> {
+    match valuation_of(alloc, numbers)? {
+        Some(v) => under_both(alloc, terms, pair, &v, others),
+        None => Ok(None),
+    }
+}
+
+/// Two terms that a row writes.
+fn pair_of(
     alloc: Global,
     terms: &mut Terms,
     texts: (&str, &str),
-    v: &Valuation,
-    other: &Valuation,
-) -> Result<Option<[[u64; 2]; 3]>, AllocError> {
+) -> Result<Option<(TermId, TermId)>, AllocError> {
     let whole = term_of(alloc, terms, Making::Plain, texts.0)?;
     let part = term_of(alloc, terms, Making::Plain, texts.1)?;
     match (whole, part) {
-        (Some(whole), Some(part)) => served(alloc, terms, (whole, part), v, other),
+        (Some(whole), Some(part)) => Ok(Some((whole, part))),
         _ => Ok(None),
     }
 }
@@ -94,15 +129,9 @@ pub fn room_answer(
     numbers: &str,
     others: &str,
 ) -> Result<Option<String>, AllocError> {
-    let (Some(v), Some(other)) = (valuation_of(alloc, numbers)?, valuation_of(alloc, others)?)
-    else {
-        return Ok(None);
-    };
     let mut terms = Terms::new(alloc);
-    match numbers_of(alloc, &mut terms, texts, &v, &other)? {
-        Some([[a, b], [c, d], [e, f]]) => {
-            Ok(Some(format!(in alloc; "{a} {b}, {c} {d}, {e} {f}")?))
-        }
+    match pair_of(alloc, &mut terms, texts)? {
+        Some(pair) => under(alloc, &mut terms, pair, numbers, others),
         None => Ok(None),
     }
 }

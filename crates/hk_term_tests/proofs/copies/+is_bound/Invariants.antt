@@ -1,5 +1,5 @@
 use Rattle.std.proofs.Common.{length}
-use Rattle.hk_term_tests.proofs.copy_tests.+is_bound.Given as goal
+use Rattle.hk_term_tests.proofs.copies.+is_bound.Given as goal
 
 abbrev pub decreases-is_bound : goal.decreases-is_bound
 decreases-is_bound l = length l.bound.now

@@ -1,7 +1,7 @@
 use Rattle.std.proofs.Common.{ℕ, ◌<◌, get_or}
 use Rattle.hk_copy.specs.declared.stand.Stand.{Stand}
 use Rattle.hk_copy.specs.Stands.{IsApart}
-use Rattle.hk_term_tests.proofs.copy_tests.are_apart.Given as goal
+use Rattle.hk_term_tests.proofs.copies.are_apart.Given as goal
 
 abbrev pub invariant-loop-entry : goal.invariant-loop-entry
 invariant-loop-entry l = (k : ℕ) (d : ℕ × Stand) → k < l.entry-index → IsApart l.bound (get_or l.stands k d).1

@@ -1,7 +1,7 @@
 use Rattle.std.proofs.Common.{rules, arith}
 use Rattle.std.specs.List.{All}
 use Rattle.hk_copy.specs.Stands.{HasWidth}
-use Rattle.hk_term_tests.proofs.copy_tests.is_ready.Goals as goal
+use Rattle.hk_term_tests.proofs.copies.is_ready.Goals as goal
 
 pub returns : goal.returns
 returns c =

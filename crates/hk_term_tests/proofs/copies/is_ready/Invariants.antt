@@ -3,7 +3,7 @@ use Rattle.std.specs.List.{All, slice_get}
 use Rattle.hk_term.specs.declared.bounds.Bound.{Bound}
 use Rattle.hk_term.specs.declared.node.Node.TheVariants.{ForAll}
 use Rattle.hk_copy.specs.Stands.{IsApart}
-use Rattle.hk_term_tests.proofs.copy_tests.is_ready.Given as goal
+use Rattle.hk_term_tests.proofs.copies.is_ready.Given as goal
 
 abbrev pub invariant-loop-k : goal.invariant-loop-k
 invariant-loop-k l =

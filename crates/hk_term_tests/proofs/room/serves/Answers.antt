@@ -1,4 +1,4 @@
-use Rattle.hk_term_tests.proofs.list_tests.serves.Goals as goal
+use Rattle.hk_term_tests.proofs.room.serves.Goals as goal
 
 pub two_values-first-requires-clause-room : goal.two_values-first-requires-clause-room
 two_values-first-requires-clause-room c = c.requires.room _
