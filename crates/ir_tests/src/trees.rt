@@ -38,11 +38,9 @@ fn add_parts(
     close: &str,
 ) -> Result<(), AllocError> {
     told.push_str(open)?;
-    let mut comma = " ";
-    for part in &parts.items {
-        told.push_str(comma)?;
+    for (place, part) in parts.items.iter().enumerate() {
+        told.push_str(if place == 0 { " " } else { ", " })?;
         add_type(told, part)?;
-        comma = ", ";
     }
     told.push(' ')?;
     told.push_str(close)
