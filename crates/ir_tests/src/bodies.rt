@@ -34,7 +34,11 @@ fn add_tree(told: &mut String, item: &BodyItem) -> Result<(), AllocError> {
 fn add_item(alloc: Global, told: &mut String, item: &Item<'_>) -> Result<(), AllocError> {
     add_between(told, "; ")?;
     match read_body_item(alloc, item) {
-        Ok(item) => add_tree(told, &item),
+        Ok(item) => {
+            let added = add_tree(told, &item);
+            drop(item);
+            added
+        }
         Err(fault) => write!(told, "{fault}"),
     }
 }

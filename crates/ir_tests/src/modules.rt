@@ -3,6 +3,7 @@
 ghost use Rattle.std.specs.Prelude.{◌<◌, ◌^◌, length};
 ghost use Rattle.ir_ast.specs.Small.{IsSmall};
 
+use crate::parts::stopped;
 use crate::row::add_bytes;
 use ir_ast::{Block, BlockList, Module};
 use ir_lex::Token;
@@ -23,13 +24,19 @@ fn kind(top: &TopItem) -> &'static str {
 }
 
 /// What the item is that tokens spell.
+fn kind_at<'t>(alloc: Global, tokens: &'t [Token<'t>]) -> Result<&'static str, PartStop> {
+    let top = read_top(alloc, tokens)?;
+    let kind = kind(&top);
+    drop(top);
+    Ok(kind)
+}
+
+/// What the item is that tokens spell, or that they spell none.
 pub(crate) fn top_told<'t>(alloc: Global, tokens: &'t [Token<'t>]) -> Result<String, AllocError> {
-    let told = match read_top(alloc, tokens) {
-        Ok(top) => kind(&top),
-        Err(PartStop::NotSpelled) => "not spelled",
-        Err(PartStop::Memory) => "memory",
-    };
-    String::from_str(alloc, told)
+    match kind_at(alloc, tokens) {
+        Ok(kind) => String::from_str(alloc, kind),
+        Err(stop) => stopped(alloc, stop),
+    }
 }
 
 /// Adds a block as its name, its line and how many instructions it has.

@@ -6,8 +6,8 @@ use ir_lex::Token;
 use ir_part::{PartStop, operand_at, type_at};
 use std::alloc::{AllocError, Global};
 
-/// That there is no part at the front.
-fn stopped(alloc: Global, stop: PartStop) -> Result<String, AllocError> {
+/// That tokens spell no part.
+pub(crate) fn stopped(alloc: Global, stop: PartStop) -> Result<String, AllocError> {
     match stop {
         PartStop::NotSpelled => String::from_str(alloc, "not spelled"),
         PartStop::Memory => String::from_str(alloc, "memory"),
