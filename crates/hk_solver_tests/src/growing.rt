@@ -96,5 +96,7 @@ pub(crate) fn rounds(
     }
     let mut list = ClauseList::new(alloc, whole.vars());
     let mut solver = Solver::new(alloc, &list)?;
-    in_three(alloc, &mut solver, &mut list, whole, parts, budget)
+    let told = in_three(alloc, &mut solver, &mut list, whole, parts, budget);
+    drop(solver);
+    told
 }

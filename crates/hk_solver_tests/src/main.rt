@@ -3,15 +3,16 @@
 //! Each line of standard input that is empty or begins with `#` is printed as it is. Any other is a row of fields between bars; it is
 //! printed with its answer behind, or, if it is out of form, behind a `?`.
 //!
-//! The last field of a row over a list is LIST: a clause file, which is refused by its line and the reason, or `pigeons P H`, which asks for
-//! a hole of H for each of P pigeons and for no hole with two. In a text `\n`, `\t`, `\r` and `\0` are control characters, `\x` is a byte
-//! that begins no character, and `-` alone is no text.
+//! The last field of a row over a list is LIST: a clause file, which is refused by its line and the reason, or `pigeons P H`, which asks
+//! for a hole of H for each of P pigeons and for no hole with two. In a text `\n`, `\t`, `\r` and `\0` are control characters, `\x` is a
+//! byte that begins no character, and `-` alone is no text.
 //!
 //! - `read | LIST`: the number of variables and the clauses. `write | LIST`: the text that is written of it.
 //! - `cut | COUNT | LIST`: the same as `read` of the first clauses. `satisfies | VALUES | LIST`: whether these truth values do.
 //! - `solve | BUDGET | LIST`: `sat`, `unsat`, or `spent` with the number of rows; the model, the refutation or each row is checked.
 //! - `rows | BUDGET | LIST`: the number of rows of the refutation.
-//! - `grow | FIRST | SECOND | BUDGET | LIST`: the answers of one solver to the first clauses, to some more, and, with no small budget, to all.
+//! - `grow | FIRST | SECOND | BUDGET | LIST`: the answers of one solver to the first clauses, to some more, and, with a large budget, to
+//!   all.
 //! - `propagate | LIST`, `watch | KEPT | LIST`: unit propagation (`propagation.rt`).
 //! - `refute | LOG | LIST`: whether a log refutes the list, or its row that is refused and the reason.
 //! - `longer | LITERALS | LITERAL`: the clause of a row that takes one literal more.

@@ -12,7 +12,8 @@
 //! - `name`, TEXT: the name that a token with a sigil spells, `label`, TEXT: that of one without.
 //! - `type`, TEXT, `operand`, TEXT, `bit`, TEXT, `typed`, TEXT: the type, the operand, the operand of one bit, or the type and the operand
 //!   at the front of the text, and how many tokens are left behind each.
-//! - `behind type` or `behind operand`, COUNT, FRONT, MIDDLE, BACK: how many are left where so many of FRONT and of BACK stand round MIDDLE.
+//! - `behind type` or `behind operand`, COUNT, FRONT, MIDDLE, BACK: how many are left behind it where so many of FRONT and of BACK stand
+//!   round MIDDLE.
 //! - `body`, TEXT: the items of a body, each as its tree says it (`operations.rt`), or why it is refused.
 //! - `top`, TEXT: what an item outside of bodies is.
 //! - `read`, TEXT: whether the text is a kernel, or the line and the reason of the refusal.
