@@ -3,7 +3,7 @@ use Rattle.std.proofs.lemmas.List.{take-take}
 use Rattle.hk_cdcl.specs.Path.{Path}
 use Rattle.hk_cdcl.specs.Propagation.{HasSeen}
 use Rattle.hk_cdcl.proofs.Running.{grown-all}
-use Rattle.hk_solver_tests.proofs.cdcl_tests.watched.Goals as goal
+use Rattle.hk_solver_tests.proofs.propagation.watched.Goals as goal
 
 -- after a cut
 seen-cut : (fits : List ℤ → Type 0) (lits more : List ℤ) (n : ℕ) → more ≡ take n lits → fits (take n lits) → HasSeen fits more

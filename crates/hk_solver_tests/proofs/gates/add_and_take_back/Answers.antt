@@ -1,7 +1,7 @@
 use Rattle.hk_cnf.specs.Front.{CanCut}
 use Rattle.hk_cnf.proofs.FrontLaws.{IsFront-refl, can-cut-at}
-use Rattle.hk_solver_tests.proofs.gate_tests.add_and_take_back.Goals as goal
-use Rattle.hk_solver_tests.proofs.gate_tests.add_and_take_back.Goals.{After-cut-arg-1}
+use Rattle.hk_solver_tests.proofs.gates.add_and_take_back.Goals as goal
+use Rattle.hk_solver_tests.proofs.gates.add_and_take_back.Goals.{After-cut-arg-1}
 
 fits : (c : After-cut-arg-1) → CanCut c.sizes-sizes.result.vars c.sizes-sizes.result.clauses c.sizes-sizes.result.gates c.add_required-done.new.gates
 fits c =
