@@ -7,7 +7,7 @@ use hk_verify::run_words;
 use std::alloc::{AllocError, Global};
 
 /// Calls of the shelf and a put that fail, counted from 1; 0 stands for none.
-#[derive(Clone, Copy, Debug, PartialEq, Eq)]
+#[derive(Clone, Copy)]
 pub struct Faults {
     pub failing: (u64, u64),
     /// The put, with the bytes that it takes.
@@ -15,6 +15,7 @@ pub struct Faults {
 }
 
 impl Faults {
+    /// Nothing fails.
     pub fn none() -> Faults {
         Faults {
             failing: (0, 0),
@@ -24,7 +25,7 @@ impl Faults {
 }
 
 /// A shelf with these files that fails where it is to.
-pub fn shelf_of(files: FileList, alloc: Global, faults: Faults) -> Result<MemShelf, AllocError> {
+pub fn shelf_of(alloc: Global, files: FileList, faults: Faults) -> Result<MemShelf, AllocError> {
     let (first, second) = faults.failing;
     let failing = vec![in alloc; first, second]?;
     Ok(MemShelf::new(files, CallList::from_vec(failing)))

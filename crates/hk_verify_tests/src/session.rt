@@ -45,7 +45,7 @@ pub fn finished(alloc: Global, session: &mut Session) -> Result<String, AllocErr
     }
     if session.is_changed {
         let files = copies(alloc, &session.files)?;
-        session.shelf = shelf_of(files, alloc, session.faults)?;
+        session.shelf = shelf_of(alloc, files, session.faults)?;
         session.is_changed = false;
     }
     let words = session.words.as_str();
@@ -106,33 +106,42 @@ fn take(alloc: Global, session: &mut Session, form: &str, field: &str) -> Result
     Ok(true)
 }
 
+/// What stands behind a row, nothing for most; none where it has no such form.
+fn answer(
+    alloc: Global,
+    session: &mut Session,
+    form: &str,
+    field: &str,
+) -> Result<Option<String>, AllocError> {
+    if form == "with" || form == "size" {
+        let table = session.table.as_str();
+        return table_answer(alloc, table, &session.files, session.faults, form, field);
+    }
+    if take(alloc, session, form, field)? {
+        Ok(Some(String::new(alloc)))
+    } else {
+        Ok(None)
+    }
+}
+
 /// A row with its answer, behind what is told of the call before it.
 fn told_next(alloc: Global, session: &mut Session, row: &str) -> Result<String, AllocError> {
     let before = finished(alloc, session)?;
     let (form, field) = row.split_once(' ').unwrap_or((row, ""));
-    if form == "with" || form == "size" {
-        let table = session.table.as_str();
-        let answer = table_answer(alloc, table, &session.files, session.faults, form, field)?;
-        return match answer {
-            Some(answer) => format!(in alloc; "{before}{row}{answer}\n"),
-            None => format!(in alloc; "{before}? {row}\n"),
-        };
-    }
-    if take(alloc, session, form, field)? {
-        format!(in alloc; "{before}{row}\n")
-    } else {
-        format!(in alloc; "{before}? {row}\n")
+    match answer(alloc, session, form, field)? {
+        Some(answer) => format!(in alloc; "{before}{row}{answer}\n"),
+        None => format!(in alloc; "{before}? {row}\n"),
     }
 }
 
 /// A row with its answer. A call is made when the row behind its expected lines is read.
 pub fn answered(alloc: Global, session: &mut Session, row: &str) -> Result<String, AllocError> {
     match row.strip_prefix("> ") {
-        Some(line) => {
+        Some(line) if !session.words.is_empty() => {
             session.expected.push_str(line)?;
             session.expected.push('\n')?;
             format!(in alloc; "{row}\n")
         }
-        None => told_next(alloc, session, row),
+        _ => told_next(alloc, session, row),
     }
 }

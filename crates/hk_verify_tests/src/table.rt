@@ -73,7 +73,7 @@ fn told_over(
     files: FileList,
     faults: Faults,
 ) -> Result<String, AllocError> {
-    let mut shelf = shelf_of(files, alloc, faults)?;
+    let mut shelf = shelf_of(alloc, files, faults)?;
     let outcome = call(alloc, words, &mut shelf, faults.cut)?;
     told_behind(alloc, words, &outcome)
 }
