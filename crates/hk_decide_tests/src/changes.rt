@@ -26,6 +26,21 @@ pub enum Change {
     InstanceDropped,
 }
 
+/// The change of a word.
+pub fn change_of(word: &str) -> Option<Change> {
+    match word {
+        "nothing" => Some(Change::Nothing),
+        "hint-dropped" => Some(Change::HintDropped),
+        "hint-to-nothing" => Some(Change::HintToNothing),
+        "row-dropped" => Some(Change::RowDropped),
+        "instance-of-nothing" => Some(Change::InstanceOfNothing),
+        "instances-twice" => Some(Change::InstancesTwice),
+        "no-instances" => Some(Change::NoInstances),
+        "instance-dropped" => Some(Change::InstanceDropped),
+        _ => None,
+    }
+}
+
 /// The hints under a change of the last one.
 fn hints_of(alloc: Global, hints: &[u64], change: Change) -> Result<IdList, AllocError> {
     match (hints, change) {

@@ -6,25 +6,22 @@ ghost use Rattle.spec_kernel.specs.Fit.{FitsModule};
 ghost use Rattle.spec_tree.specs.Sorted.{IsWellSorted};
 ghost use Rattle.spec_tree.specs.View.{view_spec};
 
-use crate::inputs::{Inputs, read_lines};
-use crate::texts::{COUNTER, COUNTS, IS_PRODUCT_AND_MORE, IS_SQUARE_AND_MORE, MULTIPLIES, SQUARES};
+use crate::inputs::Inputs;
 use hk_case::Obligation;
 use hk_decide::{decide, open};
 use hk_proof::Proof;
 use hk_verdict::{InitVerdict, Verdict};
 use std::alloc::{AllocError, Global};
-use std::test::Fail;
 
 /// What is seen of a verdict.
-#[derive(Clone, Copy, Debug, PartialEq, Eq)]
+#[derive(Clone, Copy)]
 enum Seen {
-    /// There is no handler, or no verdict.
-    Nothing,
     /// It is accepted, with so many refutations and so many trials of all cases.
     Accepted(usize, usize),
     Rejected(Obligation),
     /// This obligation is open, with a log of so many rows.
     Unknown(Obligation, usize),
+    Memory,
 }
 
 /// How many proofs are refutations.
@@ -64,60 +61,47 @@ fn seen_of(alloc: Global, inputs: &Inputs, budget: u64, keep: bool) -> Result<Se
             drop(clauses);
             Ok(Seen::Unknown(obligation, log.len()))
         }
-        Verdict::Memory => Ok(Seen::Nothing),
+        Verdict::Memory => Ok(Seen::Memory),
     }
 }
 
-/// The same of texts.
-fn verdict_of(
+/// What is told of what is seen.
+fn seen_text(alloc: Global, seen: Seen) -> Result<String, AllocError> {
+    match seen {
+        Seen::Accepted(refuted, tried) => {
+            format!(in alloc; "accepted, {refuted} refuted, {tried} tried")
+        }
+        Seen::Rejected(obligation) => format!(in alloc; "rejected {obligation:?}"),
+        Seen::Unknown(obligation, rows) => {
+            format!(in alloc; "unknown {obligation:?}, a log of {rows}")
+        }
+        Seen::Memory => String::from_str(alloc, "memory"),
+    }
+}
+
+/// What is told of the verdict on the first handler.
+pub fn verdict_told(
     alloc: Global,
-    texts: (&[&str], &[&str]),
+    inputs: &Inputs,
     budget: u64,
     keep: bool,
-) -> Result<Seen, AllocError>
-    requires { 1 ≤ budget }
+) -> Result<String, AllocError>
+    requires sorted { IsWellSorted (view_spec inputs.now.spec) }
+    requires fits { FitsModule (view_module inputs.now.kernel) (view_spec inputs.now.spec) }
+    requires there { 0 < length inputs.now.spec.transitions }
+    requires budget { 1 ≤ budget }
 {
-    match read_lines(alloc, texts.0, texts.1)? {
-        Some(inputs) => seen_of(alloc, &inputs, budget, keep),
-        None => Ok(Seen::Nothing),
+    let seen = seen_of(alloc, inputs, budget, keep)?;
+    seen_text(alloc, seen)
+}
+
+/// What is told of the opening.
+pub fn opening_told(alloc: Global, inputs: &Inputs) -> Result<String, AllocError>
+    requires sorted { IsWellSorted (view_spec inputs.now.spec) }
+    requires fits { FitsModule (view_module inputs.now.kernel) (view_spec inputs.now.spec) }
+{
+    match open(alloc, &inputs.kernel, &inputs.spec)? {
+        InitVerdict::Holds => String::from_str(alloc, "holds"),
+        _ => String::from_str(alloc, "fails"),
     }
-}
-
-#[test]
-fn proofs_are_kept_where_they_are_asked_for(rt: HostRuntime) -> Result<(), Fail> {
-    let alloc = rt.alloc();
-    // `undefined` and the field
-    let kept = verdict_of(alloc, (COUNTER, COUNTS), 20_000, true)?;
-    assert_eq!(rt; kept, Seen::Accepted(2, 0));
-    let unkept = verdict_of(alloc, (COUNTER, COUNTS), 20_000, false)?;
-    assert_eq!(rt; unkept, Seen::Accepted(0, 0));
-    Ok(())
-}
-
-#[test]
-fn few_cases_are_tried_where_the_budget_is_spent(rt: HostRuntime) -> Result<(), Fail> {
-    let alloc = rt.alloc();
-    // nothing is undefined in a product; the result needs more than one conflict
-    let small = verdict_of(alloc, (SQUARES, IS_SQUARE_AND_MORE), 1, true)?;
-    assert_eq!(rt; small, Seen::Accepted(1, 1));
-    let large = verdict_of(alloc, (MULTIPLIES, IS_PRODUCT_AND_MORE), 1, true)?;
-    assert_eq!(rt; large, Seen::Unknown(Obligation::ResultValue, 1));
-    Ok(())
-}
-
-/// Whether the opening of texts holds.
-fn holds_at_first(alloc: Global, texts: (&[&str], &[&str])) -> Result<bool, AllocError> {
-    match read_lines(alloc, texts.0, texts.1)? {
-        Some(inputs) => match open(alloc, &inputs.kernel, &inputs.spec)? {
-            InitVerdict::Holds => Ok(true),
-            _ => Ok(false),
-        },
-        None => Ok(false),
-    }
-}
-
-#[test]
-fn the_initial_memory_is_tested(rt: HostRuntime) -> Result<(), Fail> {
-    assert!(rt; holds_at_first(rt.alloc(), (COUNTER, COUNTS))?);
-    Ok(())
 }

@@ -1,0 +1,40 @@
+//! A test as a program: what verdicts keep, and proofs of acceptances that are checked as they are, with one part changed, and for another
+//! handler.
+//!
+//! Each line of standard input comes out again, with its answer behind it. Fields stand between blanks.
+//!
+//! - `# WORDS`: what the rows below show. It has no answer.
+//! - `file NAME`: an empty text, to which `| TEXT` adds a line. KERNEL and SPEC are names of such texts.
+//! - `open KERNEL SPEC`: what the initial memory comes to.
+//! - `decide KERNEL SPEC BUDGET`: the verdict on the first handler with this budget of conflicts. Behind a fourth word, `keep`, with proofs.
+//! - `check KERNEL SPEC BUDGET PLACE CHANGE`: the first handler's proofs are kept, the one at a place is changed (`changes.rt`), and all are
+//!   checked: what that comes to, and how many rows the log of that proof has. A word of a change has its name.
+//! - `other KERNEL SPEC BUDGET`: the same proofs, unchanged, for the second handler.
+//! - `cases KERNEL SPEC COUNT`: so many proofs that all cases were tried, for the first handler.
+//!
+//! Behind ` > FRONT` the answer begins so, and what it goes on with is left open: it comes out as `as expected`. A line of no such form, or
+//! over a text that is refused, comes out behind a question mark.
+#![tactic(auto)]
+
+mod changes;
+mod checks;
+mod found;
+mod given;
+mod inputs;
+mod owed;
+mod rows;
+mod texts;
+mod verdicts;
+
+use crate::rows::answered;
+use std::io;
+
+fn main(rt: HostRuntime) -> io::Result<()> {
+    let mut texts = Vec::new(rt.alloc());
+    for row in rt.lines(rt.alloc()) {
+        let row = row?;
+        let told = answered(rt.alloc(), &mut texts, row.as_str())?;
+        println!(rt; "{told}")?;
+    }
+    Ok(())
+}
