@@ -6,7 +6,7 @@ use hk_proof::{Proof, ProofList};
 use std::alloc::{AllocError, Global};
 
 /// What is changed of a refutation.
-#[derive(Clone, Copy, Debug, PartialEq, Eq)]
+#[derive(Clone, Copy, PartialEq, Eq)]
 pub enum Change {
     /// Nothing.
     Nothing,

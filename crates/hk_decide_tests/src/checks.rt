@@ -7,7 +7,7 @@ ghost use Rattle.spec_tree.specs.Sorted.{IsWellSorted};
 ghost use Rattle.spec_tree.specs.View.{view_spec};
 
 use crate::changes::{Change, all_by_cases, changed};
-use crate::found::{Found, found_text};
+use crate::found::Told;
 use crate::given::checked_as;
 use crate::inputs::Inputs;
 use hk_decide::decide;
@@ -46,7 +46,7 @@ fn told_of(
     h: u32,
     proofs: &ProofList,
     place: usize,
-) -> Result<Option<(Found, u64)>, AllocError>
+) -> Result<Told, AllocError>
     requires sorted { IsWellSorted (view_spec inputs.now.spec) }
     requires fits { FitsModule (view_module inputs.now.kernel) (view_spec inputs.now.spec) }
     requires there { h < length inputs.now.spec.transitions }
@@ -59,13 +59,13 @@ fn told_of(
 }
 
 /// What checking the proofs of the first handler comes to where the one at a place is changed.
-fn told_of_changed(
+pub fn told_of_changed(
     alloc: Global,
     inputs: &Inputs,
     budget: u64,
     place: usize,
     change: Change,
-) -> Result<Option<(Found, u64)>, AllocError>
+) -> Result<Told, AllocError>
     requires sorted { IsWellSorted (view_spec inputs.now.spec) }
     requires fits { FitsModule (view_module inputs.now.kernel) (view_spec inputs.now.spec) }
     requires there { 0 < length inputs.now.spec.transitions }
@@ -81,11 +81,7 @@ fn told_of_changed(
 }
 
 /// What checking the proofs of the first handler comes to for the second one.
-fn told_of_second(
-    alloc: Global,
-    inputs: &Inputs,
-    budget: u64,
-) -> Result<Option<(Found, u64)>, AllocError>
+pub fn told_of_second(alloc: Global, inputs: &Inputs, budget: u64) -> Result<Told, AllocError>
     requires sorted { IsWellSorted (view_spec inputs.now.spec) }
     requires fits { FitsModule (view_module inputs.now.kernel) (view_spec inputs.now.spec) }
     requires there { 0 < length inputs.now.spec.transitions }
@@ -101,61 +97,11 @@ fn told_of_second(
 }
 
 /// What checking comes to where the proofs of the first handler are that all cases were tried.
-fn told_by_cases(
-    alloc: Global,
-    inputs: &Inputs,
-    count: usize,
-) -> Result<Option<(Found, u64)>, AllocError>
+pub fn told_by_cases(alloc: Global, inputs: &Inputs, count: usize) -> Result<Told, AllocError>
     requires sorted { IsWellSorted (view_spec inputs.now.spec) }
     requires fits { FitsModule (view_module inputs.now.kernel) (view_spec inputs.now.spec) }
     requires there { 0 < length inputs.now.spec.transitions }
 {
     let proofs = all_by_cases(alloc, count)?;
     told_of(alloc, inputs, 0, &proofs, 0)
-}
-
-/// What is told of what was found.
-fn text_of(alloc: Global, told: Option<(Found, u64)>) -> Result<String, AllocError> {
-    match told {
-        Some((found, rows)) => found_text(alloc, found, rows),
-        None => String::from_str(alloc, "no such proofs"),
-    }
-}
-
-/// What is told of checking the proofs of the first handler where the one at a place is changed.
-pub fn changed_told(
-    alloc: Global,
-    inputs: &Inputs,
-    budget: u64,
-    place: usize,
-    change: Change,
-) -> Result<String, AllocError>
-    requires sorted { IsWellSorted (view_spec inputs.now.spec) }
-    requires fits { FitsModule (view_module inputs.now.kernel) (view_spec inputs.now.spec) }
-    requires there { 0 < length inputs.now.spec.transitions }
-    requires budget { 1 ≤ budget }
-{
-    let told = told_of_changed(alloc, inputs, budget, place, change)?;
-    text_of(alloc, told)
-}
-
-/// What is told of checking the proofs of the first handler for the second one.
-pub fn second_told(alloc: Global, inputs: &Inputs, budget: u64) -> Result<String, AllocError>
-    requires sorted { IsWellSorted (view_spec inputs.now.spec) }
-    requires fits { FitsModule (view_module inputs.now.kernel) (view_spec inputs.now.spec) }
-    requires there { 0 < length inputs.now.spec.transitions }
-    requires budget { 1 ≤ budget }
-{
-    let told = told_of_second(alloc, inputs, budget)?;
-    text_of(alloc, told)
-}
-
-/// What is told of checking so many proofs that all cases were tried for the first handler.
-pub fn cases_told(alloc: Global, inputs: &Inputs, count: usize) -> Result<String, AllocError>
-    requires sorted { IsWellSorted (view_spec inputs.now.spec) }
-    requires fits { FitsModule (view_module inputs.now.kernel) (view_spec inputs.now.spec) }
-    requires there { 0 < length inputs.now.spec.transitions }
-{
-    let told = told_by_cases(alloc, inputs, count)?;
-    text_of(alloc, told)
 }

@@ -1,4 +1,4 @@
-//! What checking comes to, as a value that tests compare.
+//! What checking comes to, as a value, and what is told of it.
 
 use hk_case::Obligation;
 use hk_check::Checked;
@@ -6,7 +6,7 @@ use hk_lrat::RowReason;
 use std::alloc::{AllocError, Global};
 
 /// What checking the proofs of a handler comes to, without the clauses and the case that it hands out.
-#[derive(Clone, Copy, PartialEq, Eq, Debug)]
+#[derive(Clone, Copy)]
 pub enum Found {
     Holds,
     Refused {
@@ -22,6 +22,9 @@ pub enum Found {
         instance: usize,
     },
 }
+
+/// What was found of the proofs of a handler, where there are such, with the rows of the log of one of them.
+pub type Told = Option<(Found, u64)>;
 
 /// What was found, as a value.
 pub fn found_of(checked: Checked) -> Found {
@@ -64,8 +67,8 @@ fn count_text(rows: u64) -> &'static str {
     }
 }
 
-/// What is told of what was found, with the rows of the log of a proof.
-pub fn found_text(alloc: Global, found: Found, rows: u64) -> Result<String, AllocError> {
+/// What is told of what was found.
+fn found_text(alloc: Global, found: Found, rows: u64) -> Result<String, AllocError> {
     let count = count_text(rows);
     match found {
         Found::Holds => format!(in alloc; "holds, {count}"),
@@ -86,5 +89,13 @@ pub fn found_text(alloc: Global, found: Found, rows: u64) -> Result<String, Allo
             };
             format!(in alloc; "proof {proof} has an instance of nothing, {place}, {count}")
         }
+    }
+}
+
+/// What is told of what was found, where there are such proofs.
+pub fn told_text(alloc: Global, told: Told) -> Result<String, AllocError> {
+    match told {
+        Some((found, rows)) => found_text(alloc, found, rows),
+        None => String::from_str(alloc, "no such proofs"),
     }
 }

@@ -6,14 +6,15 @@
 //! - `# WORDS`: what the rows below show. It has no answer.
 //! - `file NAME`: an empty text, to which `| TEXT` adds a line. KERNEL and SPEC are names of such texts.
 //! - `open KERNEL SPEC`: what the initial memory comes to.
-//! - `decide KERNEL SPEC BUDGET`: the verdict on the first handler with this budget of conflicts. Behind a fourth word, `keep`, with proofs.
-//! - `check KERNEL SPEC BUDGET PLACE CHANGE`: the first handler's proofs are kept, the one at a place is changed (`changes.rt`), and all are
-//!   checked: what that comes to, and how many rows the log of that proof has. A word of a change has its name.
-//! - `other KERNEL SPEC BUDGET`: the same proofs, unchanged, for the second handler.
-//! - `cases KERNEL SPEC COUNT`: so many proofs that all cases were tried, for the first handler.
+//! - `decide KERNEL SPEC BUDGET`, or with `keep` behind it: the verdict on the first handler with a budget of conflicts, and how many
+//!   refutations and trials of all cases are kept as its proofs.
+//! - `check KERNEL SPEC BUDGET PLACE CHANGE`: what checking the proofs of the first handler comes to where the one at a place is changed
+//!   (`changes.rt` has the words of changes), and how many rows the log of that one has.
+//! - `other KERNEL SPEC BUDGET`: the same where its proofs are given for the second handler.
+//! - `cases KERNEL SPEC COUNT`: the same of so many proofs that all cases were tried, given for the first handler.
 //!
-//! Behind ` > FRONT` the answer begins so, and what it goes on with is left open: it comes out as `as expected`. A line of no such form, or
-//! over a text that is refused, comes out behind a question mark.
+//! Where ` > FRONT` stands behind a row, its answer begins so, and what it goes on with is left open: `as expected` stands for it. A line of
+//! no such form, or over a text that is refused, comes out behind a question mark.
 #![tactic(auto)]
 
 mod changes;

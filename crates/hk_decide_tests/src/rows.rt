@@ -1,21 +1,45 @@
 //! The rows, each with its answer.
 
-ghost use Rattle.std.specs.Prelude.{◌<◌, length};
+ghost use Rattle.std.specs.Prelude.{◌≤◌, ◌<◌, length};
 ghost use Rattle.ir_ast.specs.ProgramView.{view_module};
 ghost use Rattle.spec_kernel.specs.Fit.{FitsModule};
 ghost use Rattle.spec_tree.specs.Sorted.{IsWellSorted};
 ghost use Rattle.spec_tree.specs.View.{view_spec};
 
 use crate::changes::change_of;
-use crate::checks::{cases_told, changed_told, second_told};
+use crate::checks::{told_by_cases, told_of_changed, told_of_second};
+use crate::found::told_text;
 use crate::inputs::{Inputs, read_both};
 use crate::texts::{Text, add_line, begin, text_named};
-use crate::verdicts::{opening_told, verdict_told};
+use crate::verdicts::{opening_told, seen_of, seen_text};
 use std::alloc::{AllocError, Global};
 
-/// A number, and 1 where the word is none.
-fn number_of(word: &str) -> u64 {
-    word.parse::<u64>().unwrap_or(1)
+/// A budget, 1 where the word is none.
+fn budget_of(word: &str) -> u64
+    ensures { 1 ≤ result }
+{
+    word.parse::<u64>().unwrap_or(1).max(1)
+}
+
+/// A place or a count, 0 where the word is none.
+fn place_of(word: &str) -> usize {
+    word.parse::<usize>().unwrap_or(0)
+}
+
+/// The answer to a row on the first handler's proofs with one changed, where its words have a form.
+fn checked(alloc: Global, inputs: &Inputs, words: &[&str]) -> Result<Option<String>, AllocError>
+    requires sorted { IsWellSorted (view_spec inputs.now.spec) }
+    requires fits { FitsModule (view_module inputs.now.kernel) (view_spec inputs.now.spec) }
+    requires there { 0 < length inputs.now.spec.transitions }
+{
+    let [budget, place, word] = words else {
+        return Ok(None);
+    };
+    let Some(change) = change_of(word) else {
+        return Ok(None);
+    };
+    let told = told_of_changed(alloc, inputs, budget_of(budget), place_of(place), change)?;
+    Ok(Some(told_text(alloc, told)?))
 }
 
 /// The answer to a row of these words behind the names of its texts, where it has a form.
@@ -26,17 +50,15 @@ fn told_of(alloc: Global, inputs: &Inputs, words: &[&str]) -> Result<Option<Stri
 {
     let told = match words {
         ["open"] => opening_told(alloc, inputs)?,
-        ["decide", budget] => verdict_told(alloc, inputs, number_of(budget).max(1), false)?,
-        ["decide", budget, "keep"] => verdict_told(alloc, inputs, number_of(budget).max(1), true)?,
-        ["other", budget] => second_told(alloc, inputs, number_of(budget).max(1))?,
-        ["cases", count] => cases_told(alloc, inputs, number_of(count) as usize)?,
-        ["check", budget, place, word] => {
-            let Some(change) = change_of(word) else {
-                return Ok(None);
-            };
-            let place = number_of(place) as usize;
-            changed_told(alloc, inputs, number_of(budget).max(1), place, change)?
+        ["decide", budget] => seen_text(alloc, seen_of(alloc, inputs, budget_of(budget), false)?)?,
+        ["decide", budget, "keep"] => {
+            seen_text(alloc, seen_of(alloc, inputs, budget_of(budget), true)?)?
         }
+        ["check", rest @ ..] => return checked(alloc, inputs, rest),
+        ["other", budget] => {
+            told_text(alloc, told_of_second(alloc, inputs, budget_of(budget))?)?
+        }
+        ["cases", count] => told_text(alloc, told_by_cases(alloc, inputs, place_of(count))?)?,
         _ => return Ok(None),
     };
     Ok(Some(told))

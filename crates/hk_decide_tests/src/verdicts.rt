@@ -15,7 +15,7 @@ use std::alloc::{AllocError, Global};
 
 /// What is seen of a verdict.
 #[derive(Clone, Copy)]
-enum Seen {
+pub enum Seen {
     /// It is accepted, with so many refutations and so many trials of all cases.
     Accepted(usize, usize),
     Rejected(Obligation),
@@ -36,7 +36,7 @@ fn refutations(proofs: &[Proof]) -> usize {
 }
 
 /// What is seen of the verdict on the first handler.
-fn seen_of(alloc: Global, inputs: &Inputs, budget: u64, keep: bool) -> Result<Seen, AllocError>
+pub fn seen_of(alloc: Global, inputs: &Inputs, budget: u64, keep: bool) -> Result<Seen, AllocError>
     requires sorted { IsWellSorted (view_spec inputs.now.spec) }
     requires fits { FitsModule (view_module inputs.now.kernel) (view_spec inputs.now.spec) }
     requires there { 0 < length inputs.now.spec.transitions }
@@ -66,7 +66,7 @@ fn seen_of(alloc: Global, inputs: &Inputs, budget: u64, keep: bool) -> Result<Se
 }
 
 /// What is told of what is seen.
-fn seen_text(alloc: Global, seen: Seen) -> Result<String, AllocError> {
+pub fn seen_text(alloc: Global, seen: Seen) -> Result<String, AllocError> {
     match seen {
         Seen::Accepted(refuted, tried) => {
             format!(in alloc; "accepted, {refuted} refuted, {tried} tried")
@@ -77,22 +77,6 @@ fn seen_text(alloc: Global, seen: Seen) -> Result<String, AllocError> {
         }
         Seen::Memory => String::from_str(alloc, "memory"),
     }
-}
-
-/// What is told of the verdict on the first handler.
-pub fn verdict_told(
-    alloc: Global,
-    inputs: &Inputs,
-    budget: u64,
-    keep: bool,
-) -> Result<String, AllocError>
-    requires sorted { IsWellSorted (view_spec inputs.now.spec) }
-    requires fits { FitsModule (view_module inputs.now.kernel) (view_spec inputs.now.spec) }
-    requires there { 0 < length inputs.now.spec.transitions }
-    requires budget { 1 ≤ budget }
-{
-    let seen = seen_of(alloc, inputs, budget, keep)?;
-    seen_text(alloc, seen)
 }
 
 /// What is told of the opening.
