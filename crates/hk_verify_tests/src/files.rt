@@ -20,11 +20,11 @@ pub fn begin_file(alloc: Global, files: &mut Vec<File>, name: &str) -> Result<()
     Ok(())
 }
 
-/// A copy of the text of the file of a name, which is empty where there is none.
-fn text_named(alloc: Global, files: &[File], name: &str) -> Result<String, AllocError> {
+/// A copy of the text of the file of a name.
+fn text_named(alloc: Global, files: &[File], name: &str) -> Result<Option<String>, AllocError> {
     match files.iter().find(|file| file.name.as_str() == name) {
-        Some(file) => String::from_str(alloc, file.text.as_str()),
-        None => Ok(String::new(alloc)),
+        Some(file) => Ok(Some(String::from_str(alloc, file.text.as_str())?)),
+        None => Ok(None),
     }
 }
 
@@ -120,6 +120,20 @@ fn change(alloc: Global, text: &mut String, form: &str, field: &str) -> Result<b
     Ok(true)
 }
 
+/// Adds the text of another file to that of the last one; false where there is no such file.
+fn add_like(alloc: Global, files: &mut Vec<File>, name: &str) -> Result<bool, AllocError> {
+    let Some(other) = text_named(alloc, files, name)? else {
+        return Ok(false);
+    };
+    match files.last_mut() {
+        Some(file) => {
+            file.text.push_str(other.as_str())?;
+            Ok(true)
+        }
+        None => Ok(false),
+    }
+}
+
 /// Changes the text of the last file by a row; false where there is no file or the row has no such form.
 pub fn change_last(
     alloc: Global,
@@ -128,14 +142,7 @@ pub fn change_last(
     field: &str,
 ) -> Result<bool, AllocError> {
     if form == "like" {
-        let other = text_named(alloc, files, field)?;
-        return match files.last_mut() {
-            Some(file) => {
-                file.text.push_str(other.as_str())?;
-                Ok(true)
-            }
-            None => Ok(false),
-        };
+        return add_like(alloc, files, field);
     }
     match files.last_mut() {
         Some(file) => change(alloc, &mut file.text, form, field),

@@ -88,7 +88,7 @@ fn take(alloc: Global, session: &mut Session, form: &str, field: &str) -> Result
             session.faults = Faults::none();
             session.is_changed = true;
         }
-        "$" => session.words.push_str(field)?,
+        "$" if !field.is_empty() => session.words.push_str(field)?,
         "table" => {
             session.table.clear();
             session.table.push_str(field)?;
