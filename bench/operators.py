@@ -1,7 +1,7 @@
 #!/usr/bin/env python3
-"""Prints the lines of the tests of operators: each operator at several widths, with its values reckoned here.
+"""Prints the rows of the tables of operators in `crates/hk_verify_tests/stdin`: each operator at several widths, with its values reckoned here.
 
-operators.py > crates/hk_verify_tests/src/operator_texts.rt"""
+A number is given by its width and its value; the columns are those of the tables there."""
 import random
 
 random.seed(7)
@@ -11,24 +11,17 @@ def signed(w, a):
     return a - (1 << w) if a >> (w - 1) else a
 
 
-def values(w, a, b):
-    """The numbers of the binary operators, by how they are written."""
-    m = (1 << w) - 1
+def numbers(w, a, b):
+    """The values of + - * & | ^ << >> LShR UDiv URem."""
+    m, s = (1 << w) - 1, signed(w, a)
+    return [(a + b) & m, (a - b) & m, (a * b) & m, a & b, a | b, a ^ b, (a << b) & m if b < w else 0, (s >> min(b, w)) & m,
+            a >> b if b < w else 0, a // b if b else m, a % b if b else a]
+
+
+def truths(w, a, b):
+    """The values of == != < <= > >= ULT ULE UGT UGE."""
     s, t = signed(w, a), signed(w, b)
-    return [
-        ('{} + {}', (a + b) & m), ('{} - {}', (a - b) & m), ('{} * {}', (a * b) & m),
-        ('{} & {}', a & b), ('{} | {}', a | b), ('{} ^ {}', a ^ b),
-        ('{} << {}', (a << b) & m if b < w else 0),
-        ('{} >> {}', (s >> min(b, w)) & m), ('LShR({}, {})', a >> b if b < w else 0),
-        ('UDiv({}, {})', a // b if b else m), ('URem({}, {})', a % b if b else a),
-    ], [
-        ('{} == {}', a == b), ('{} != {}', a != b), ('{} < {}', s < t), ('{} <= {}', s <= t), ('{} > {}', s > t),
-        ('{} >= {}', s >= t), ('ULT({}, {})', a < b), ('ULE({}, {})', a <= b), ('UGT({}, {})', a > b), ('UGE({}, {})', a >= b),
-    ]
-
-
-def number(n, w):
-    return f'BitVecVal({n}, {w})'
+    return [a == b, a != b, s < t, s <= t, s > t, s >= t, a < b, a <= b, a > b, a >= b]
 
 
 def pairs(w):
@@ -38,47 +31,28 @@ def pairs(w):
     return [(m, 0), (top, m), (top & m, 1), (m, last), (top, (w - 1) & m), (m >> 1, top), (random.randint(0, m), random.randint(0, m))]
 
 
-def lines_of(numbers, truths):
-    kept = []
-    for w in (1, 5, 8, 16, 33, 64):
-        rows = []
-        for a, b in pairs(w):
-            parts = []
-            given = number(a, w), number(b, w)
-            for which in (0, 1):
-                for form, value in values(w, a, b)[which]:
-                    text = form.format(*given)
-                    if which == 0 and numbers:
-                        parts.append(f'{text} == {value}')
-                    if which == 1 and truths:
-                        parts.append(text if value else f'Not({text})')
-            rows.append(', '.join(parts))
-        kept += [f'def inv_w{w}(kernel):', '    return And('] + [f'        {r},' for r in rows[:-1]] + [f'        {rows[-1]})']
-    return kept
+def binary(values):
+    return [(w, a, b, *values(w, a, b)) for w in (1, 5, 8, 16, 33, 64) for a, b in pairs(w)]
 
 
-def widened():
+def resized():
     rows = []
     for w, more in ((1, 7), (4, 12), (8, 24), (33, 31), (63, 1)):
         for a in (0, (1 << w) - 1, 1 << (w - 1), random.randint(0, (1 << w) - 1)):
-            n, mask, wide = number(a, w), (1 << w) - 1, (1 << (w + more)) - 1
-            rows.append(f'ZeroExt({more}, {n}) == {a}, SignExt({more}, {n}) == {signed(w, a) & wide}, -{n} == {-a & mask}, ~{n} == {~a & mask}')
+            mask, wide = (1 << w) - 1, (1 << (w + more)) - 1
+            rows.append((w, more, a, a, signed(w, a) & wide, -a & mask, ~a & mask))
+    return rows
+
+
+def parts():
+    rows = []
     for w, high, low in ((8, 7, 0), (8, 7, 7), (16, 11, 4), (33, 32, 1), (64, 63, 63), (64, 62, 3), (64, 0, 0)):
         a = random.randint(0, (1 << w) - 1)
-        rows.append(f'Extract({high}, {low}, {number(a, w)}) == {(a >> low) & ((1 << (high - low + 1)) - 1)}')
-    return ['def inv_widths(kernel):', '    return And('] + [f'        {r},' for r in rows[:-1]] + [f'        {rows[-1]})']
+        rows.append((w, high, low, a, (a >> low) & ((1 << (high - low + 1)) - 1)))
+    return rows
 
 
-def constant(name, title, lines):
-    print(f'/// {title}\npub const {name}: &[&str] = &[')
-    for line in lines:
-        print(f'    "{line}",')
-    print('];')
-
-
-print('//! Specifications of operators at several widths, printed by `bench/operators.py`, which reckons the values.\n')
-constant('OPERATORS', 'Operators with numbers: sums, products, bits, shifts at and past the width, quotients by zero.', lines_of(True, False))
-print()
-constant('ORDERS', 'Comparisons, of signed and of unsigned numbers.', lines_of(False, True))
-print()
-constant('RESIZES', 'Extensions, parts, and operators with one operand.', widened())
+for title, rows in (('operators', binary(numbers)), ('orders', binary(truths)), ('resizes', resized()), ('parts', parts())):
+    print(f'# {title}')
+    for row in dict.fromkeys(rows):
+        print('with', *row)

@@ -6,7 +6,7 @@ use hk_proof::{Proof, ProofList};
 use std::alloc::{AllocError, Global};
 
 /// What is changed of a refutation.
-#[derive(Clone, Copy, Debug, PartialEq, Eq)]
+#[derive(Clone, Copy, PartialEq, Eq)]
 pub enum Change {
     /// Nothing.
     Nothing,
@@ -24,6 +24,21 @@ pub enum Change {
     NoInstances,
     /// The first instance is dropped.
     InstanceDropped,
+}
+
+/// The change of a word.
+pub fn change_of(word: &str) -> Option<Change> {
+    match word {
+        "nothing" => Some(Change::Nothing),
+        "hint-dropped" => Some(Change::HintDropped),
+        "hint-to-nothing" => Some(Change::HintToNothing),
+        "row-dropped" => Some(Change::RowDropped),
+        "instance-of-nothing" => Some(Change::InstanceOfNothing),
+        "instances-twice" => Some(Change::InstancesTwice),
+        "no-instances" => Some(Change::NoInstances),
+        "instance-dropped" => Some(Change::InstanceDropped),
+        _ => None,
+    }
 }
 
 /// The hints under a change of the last one.

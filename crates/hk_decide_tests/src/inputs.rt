@@ -12,7 +12,7 @@ use spec_ast::{RawSpec, SpecStop};
 use spec_check::elaborate;
 use spec_read::read_spec;
 use spec_tree::Spec;
-use std::alloc::{AllocError, Global};
+use std::alloc::Global;
 
 /// A kernel and a specification that fits it.
 #[derive(Drop)]
@@ -58,7 +58,7 @@ fn spec_for(alloc: Global, text: &[u8], kernel: &Kernel) -> Option<Spec>
 }
 
 /// Reads both texts.
-pub fn read(alloc: Global, kernel: &[u8], spec: &[u8]) -> Option<Inputs>
+fn read(alloc: Global, kernel: &[u8], spec: &[u8]) -> Option<Inputs>
     ensures sorted { IfSome result (λ inputs. IsWellSorted (view_spec inputs.spec)) }
     ensures fits { IfSome result (λ inputs. FitsModule (view_module inputs.kernel) (view_spec inputs.spec)) }
 {
@@ -74,36 +74,20 @@ pub fn read(alloc: Global, kernel: &[u8], spec: &[u8]) -> Option<Inputs>
     }
 }
 
-/// The text of these lines, each ended by a newline.
-fn text_of(alloc: Global, lines: &[&str]) -> Result<Vec<u8>, AllocError> {
-    let mut text = Vec::new(alloc);
-    for line in lines {
-        text.extend_from_slice(line.as_bytes())?;
-        text.push(b'\n')?;
-    }
-    Ok(text)
-}
-
-/// Reads both texts of these lines; nothing where the specification has no transition.
-pub fn read_lines(
-    alloc: Global,
-    kernel: &[&str],
-    spec: &[&str],
-) -> Result<Option<Inputs>, AllocError>
-    ensures sorted { IfOk result (λ found. IfSome found (λ inputs. IsWellSorted (view_spec inputs.spec))) }
-    ensures fits { IfOk result (λ found. IfSome found (λ inputs. FitsModule (view_module inputs.kernel) (view_spec inputs.spec))) }
-    ensures there { IfOk result (λ found. IfSome found (λ inputs. 0 < length inputs.spec.transitions)) }
+/// Reads both texts; nothing where the specification has no transition.
+pub fn read_both(alloc: Global, kernel: &str, spec: &str) -> Option<Inputs>
+    ensures sorted { IfSome result (λ inputs. IsWellSorted (view_spec inputs.spec)) }
+    ensures fits { IfSome result (λ inputs. FitsModule (view_module inputs.kernel) (view_spec inputs.spec)) }
+    ensures there { IfSome result (λ inputs. 0 < length inputs.spec.transitions) }
 {
-    let kernel = text_of(alloc, kernel)?;
-    let spec = text_of(alloc, spec)?;
-    match read(alloc, kernel.as_slice(), spec.as_slice()) {
+    match read(alloc, kernel.as_bytes(), spec.as_bytes()) {
         Some(inputs) => {
             if inputs.spec.transitions.as_slice().len() == 0 {
                 drop(inputs);
-                return Ok(None);
+                return None;
             }
-            Ok(Some(inputs))
+            Some(inputs)
         }
-        None => Ok(None),
+        None => None,
     }
 }

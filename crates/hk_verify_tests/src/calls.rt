@@ -1,116 +1,158 @@
-//! The call `verify K S`, with options or without, over files and output in memory.
+//! A call over files and output in memory, and what is told of it.
 
-use crate::shown::has_lines;
+use crate::files::File;
+use crate::lines::has_lines;
 use hk_io::{CallList, FileList, MemShelf, MemSink, PutList};
 use hk_verify::run_words;
 use std::alloc::{AllocError, Global};
-use std::test::Fail;
 
-/// A kernel, a specification, the lines that are expected of them, and the status.
-pub type Row<'x> = (&'x [&'x str], &'x [&'x str], &'x [&'x str], u8);
+/// Calls of the shelf and a put that fail, counted from 1; 0 stands for none.
+#[derive(Clone, Copy)]
+pub struct Faults {
+    pub failing: (u64, u64),
+    /// The put, with the bytes that it takes.
+    pub cut: (u64, usize),
+}
 
-/// The text of these lines, each ended by a newline.
-pub fn text_of(alloc: Global, lines: &[&str]) -> Result<Vec<u8>, AllocError> {
-    let mut text = Vec::new(alloc);
-    for line in lines {
-        text.extend_from_slice(line.as_bytes())?;
-        text.push(b'\n')?;
+impl Faults {
+    /// Nothing fails.
+    pub fn none() -> Faults {
+        Faults {
+            failing: (0, 0),
+            cut: (0, 0),
+        }
     }
-    Ok(text)
 }
 
-/// The files `K` and `S`.
-fn files_of(alloc: Global, kernel: Vec<u8>, spec: Vec<u8>) -> Result<FileList, AllocError> {
-    let mut files = Vec::new(alloc);
-    files.push((String::from_str(alloc, "K")?, kernel))?;
-    files.push((String::from_str(alloc, "S")?, spec))?;
-    Ok(FileList::from_vec(files))
+/// A shelf with these files that fails where it is to.
+pub fn shelf_of(alloc: Global, files: FileList, faults: Faults) -> Result<MemShelf, AllocError> {
+    let (first, second) = faults.failing;
+    let failing = vec![in alloc; first, second]?;
+    Ok(MemShelf::new(files, CallList::from_vec(failing)))
 }
 
-/// The words `verify K S` and these behind them.
-pub fn words_of(alloc: Global, options: &[&str]) -> Result<Vec<String>, AllocError> {
+/// Adds a file to a list.
+pub fn add_file(
+    alloc: Global,
+    list: &mut Vec<(String, Vec<u8>)>,
+    name: &str,
+    text: &[u8],
+) -> Result<(), AllocError> {
+    let name = String::from_str(alloc, name)?;
+    let text = Vec::from_slice(alloc, text)?;
+    list.push((name, text))?;
+    Ok(())
+}
+
+/// Copies of files.
+pub fn copies(alloc: Global, files: &[File]) -> Result<FileList, AllocError> {
+    let mut list = Vec::new(alloc);
+    for file in files {
+        add_file(alloc, &mut list, file.name.as_str(), file.text.as_bytes())?;
+    }
+    Ok(FileList::from_vec(list))
+}
+
+/// A word of a row: a quotation mark is left out, and `~` is a blank.
+fn word_of(alloc: Global, field: &str) -> Result<String, AllocError> {
+    let mut word = String::new(alloc);
+    for letter in field.chars() {
+        match letter {
+            '"' => {}
+            '~' => word.push(' ')?,
+            _ => word.push(letter)?,
+        }
+    }
+    Ok(word)
+}
+
+/// The words of a row.
+fn words_of(alloc: Global, row: &str) -> Result<Vec<String>, AllocError> {
     let mut words = Vec::new(alloc);
-    words.push(String::from_str(alloc, "verify")?)?;
-    words.push(String::from_str(alloc, "K")?)?;
-    words.push(String::from_str(alloc, "S")?)?;
-    for option in options {
-        words.push(String::from_str(alloc, option)?)?;
+    for field in row.split(' ') {
+        words.push(word_of(alloc, field)?)?;
     }
     Ok(words)
 }
 
-/// What was shown, and the status.
+/// What a call leaves: what was shown, the status, and how many verdicts there are.
 #[derive(Drop)]
 pub struct Outcome {
-    pub sink: MemSink,
+    pub shown: Vec<u8>,
     pub status: u8,
+    pub verdicts: usize,
 }
 
-/// What `verify K S` with these options leaves of these files, where these calls of the shelf and these puts fail.
-pub fn verify_with(
+/// What the words of a row leave over a shelf, where this put fails.
+pub fn call(
     alloc: Global,
-    kernel: Vec<u8>,
-    spec: Vec<u8>,
-    options: &[&str],
-    failing: Vec<u64>,
-    cuts: Vec<(u64, usize)>,
+    row: &str,
+    shelf: &mut MemShelf,
+    cut: (u64, usize),
 ) -> Result<Outcome, AllocError> {
-    let files = files_of(alloc, kernel, spec)?;
-    let mut shelf = MemShelf::new(files, CallList::from_vec(failing));
+    let words = words_of(alloc, row)?;
+    let cuts = vec![in alloc; cut]?;
     let mut sink = MemSink::with_room(alloc, 100_000, PutList::from_vec(cuts))?;
-    let words = words_of(alloc, options)?;
-    let answer = run_words(alloc, &words, &mut shelf, &mut sink);
-    let status = answer.status;
-    Ok(Outcome { sink, status })
+    let answer = run_words(alloc, &words, shelf, &mut sink);
+    let shown = Vec::from_slice(alloc, sink.bytes())?;
+    Ok(Outcome {
+        shown,
+        status: answer.status,
+        verdicts: answer.verdicts.as_slice().len(),
+    })
 }
 
-/// What `verify K S` leaves of these files.
-pub fn verify(alloc: Global, kernel: Vec<u8>, spec: Vec<u8>) -> Result<Outcome, AllocError> {
-    verify_with(alloc, kernel, spec, &[], Vec::new(alloc), Vec::new(alloc))
+/// Adds what was shown, each line behind two blanks, and a backslash where the last one does not end.
+fn add_lines(told: &mut String, shown: &[u8]) -> Result<(), AllocError> {
+    let mut begins = true;
+    for byte in shown {
+        told.push_str(if begins { "  " } else { "" })?;
+        told.push(char::from(*byte))?;
+        begins = *byte == b'\n';
+    }
+    told.push_str(if begins { "" } else { "\\\n" })
 }
 
-/// Whether `verify K S` with these options shows the lines that are expected and has this status.
-pub fn shows_by(
+/// Adds the status, for `bench` with the number of verdicts.
+fn add_status(told: &mut String, row: &str, outcome: &Outcome) -> Result<(), AllocError> {
+    let status = outcome.status;
+    let verdicts = outcome.verdicts;
+    if row.starts_with("bench") {
+        write!(told, "status {status}, {verdicts} verdicts")
+    } else {
+        write!(told, "status {status}")
+    }
+}
+
+/// What is told of a call: the lines that were shown, or that they are as expected, and the status.
+pub fn told_of(
     alloc: Global,
-    options: &[&str],
-    kernel: &[&str],
-    spec: &[&str],
-    expected: &[&str],
-    status: u8,
-) -> Result<bool, AllocError> {
-    let kernel = text_of(alloc, kernel)?;
-    let spec = text_of(alloc, spec)?;
-    let failing = Vec::new(alloc);
-    let outcome = verify_with(alloc, kernel, spec, options, failing, Vec::new(alloc))?;
-    Ok(outcome.status == status && has_lines(outcome.sink.bytes(), expected))
+    row: &str,
+    outcome: &Outcome,
+    expected: &str,
+) -> Result<String, AllocError> {
+    let mut told = String::new(alloc);
+    if !expected.is_empty() && has_lines(&outcome.shown, expected) {
+        told.push_str("  as expected\n")?;
+    } else {
+        add_lines(&mut told, &outcome.shown)?;
+    }
+    told.push_str("  ")?;
+    add_status(&mut told, row, outcome)?;
+    told.push('\n')?;
+    Ok(told)
 }
 
-/// Whether `verify K S` shows the lines that are expected and has this status.
-pub fn shows(
-    alloc: Global,
-    kernel: &[&str],
-    spec: &[&str],
-    expected: &[&str],
-    status: u8,
-) -> Result<bool, AllocError> {
-    shows_by(alloc, &[], kernel, spec, expected, status)
-}
-
-/// The place of the first row of which something else is shown by these options, or that has another status.
-pub fn first_wrong_by(
-    rt: &HostRuntime,
-    options: &[&str],
-    rows: &[Row<'_>],
-) -> Result<Option<usize>, Fail> {
-    for (place, (kernel, spec, expected, status)) in rows.iter().enumerate() {
-        if !shows_by(rt.alloc(), options, kernel, spec, expected, *status)? {
-            return Ok(Some(place));
+/// What is told of a call behind its row: what was shown, with a comma in the place of each newline, and the status.
+pub fn told_behind(alloc: Global, row: &str, outcome: &Outcome) -> Result<String, AllocError> {
+    let mut told = String::from_str(alloc, " => ")?;
+    for byte in &outcome.shown {
+        if *byte == b'\n' {
+            told.push_str(", ")?;
+        } else {
+            told.push(char::from(*byte))?;
         }
     }
-    Ok(None)
-}
-
-/// The place of the first row of which something else is shown, or that has another status.
-pub fn first_wrong(rt: &HostRuntime, rows: &[Row<'_>]) -> Result<Option<usize>, Fail> {
-    first_wrong_by(rt, &[], rows)
+    add_status(&mut told, row, outcome)?;
+    Ok(told)
 }
