@@ -4,7 +4,7 @@
 //! Each line of standard input comes out again, with its answer behind it. Fields stand between blanks.
 //!
 //! - `# WORDS`: what the rows below show. It has no answer.
-//! - `file NAME`: an empty text, to which `| TEXT` adds a line. KERNEL and SPEC are names of such texts.
+//! - `file NAME`: an empty text under a new name, to which `| TEXT` adds a line. KERNEL and SPEC are names of such texts.
 //! - `open KERNEL SPEC`: what the initial memory comes to.
 //! - `decide KERNEL SPEC BUDGET`, or with `keep` behind it: the verdict on the first handler with a budget of conflicts, and how many
 //!   refutations and trials of all cases are kept as its proofs.
