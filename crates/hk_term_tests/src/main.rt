@@ -19,17 +19,13 @@
 //!   grows by, and the part, and then of the term and the complement under the other numbers, all by one room.
 //!
 //! The answers are those of SMT-LIB's operations on whole numbers, found by Z3 and Python, and the nodes that the rules of simplification
-//! name. The crate's tests are those of symbolic values, and a sum whose laws follow from the clauses of the constructors alone.
+//! name.
 #![tactic(auto)]
 
-#[cfg(test)]
-mod agreement_tests;
 mod copies;
 mod lists;
 mod operations;
 mod room;
-#[cfg(test)]
-mod symvalue_tests;
 
 use crate::copies::{copied_answer, copy_answer, deep_answer};
 use crate::lists::{cut_answer, numbers_answer, places_answer};
