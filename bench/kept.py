@@ -60,7 +60,9 @@ def main(*names):
         print(f"{name}: missing {' '.join(missing) or 'nothing'}")
         if not missing:
             crate.out = open(os.devnull, "w")
-            words = crate.words(["--jobs", "1"], tests=name.endswith("_tests"))
+            # (a test crate without a program is all tests)
+            is_program = os.path.exists(f"{crate.folder}/src/main.rt")
+            words = crate.words(["--jobs", "1"], tests=name.endswith("_tests") and not is_program)
             at = words.index("--jobs")
             os.makedirs(f"{crate.folder}/out", exist_ok=True)
             with open(f"{crate.folder}/out/words", "w", encoding="utf-8") as file:
