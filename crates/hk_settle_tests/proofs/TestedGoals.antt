@@ -39,8 +39,8 @@ read-eight nodes array size t h (own n at is) = by n is (h t n at)
     by (ForAll bound inner) v e = absurd v
 read-eight nodes array size t h (under n a at part r) = read-eight nodes array size a h r
 
-pub eights-goal : (nodes : List Node) (goal : ℕ) → AllPass eights nodes → width nodes goal ≡ 1 → IsGoal nodes goal
-eights-goal nodes goal h w = record {
+pub eights_goal : (nodes : List Node) (goal : ℕ) → AllPass eights nodes → width nodes goal ≡ 1 → IsGoal nodes goal
+eights_goal nodes goal h w = record {
   truth = w;
   one_width = λ id size other a b. free-eight nodes size id goal h a ∙ sym (free-eight nodes other id goal h b);
   one_size = λ array size other a b. read-eight nodes array size goal h a ∙ sym (read-eight nodes array other goal h b);

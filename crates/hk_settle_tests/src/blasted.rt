@@ -121,21 +121,36 @@ fn two_words(bits: &BitTable) -> Option<(u64, usize)> {
     Some((bits.at(0).place(), bits.word_at(1).len()))
 }
 
-/// What is left of a term once its two's complement is taken back, and what is there once it comes in again.
+/// The terms, words and variables once a term is blasted and what was blasted behind it is taken back.
+fn left(
+    terms: &mut Terms,
+    a: TermId,
+    gates: &mut Gates,
+    bits: &mut BitTable,
+) -> Result<[u64; 3], AllocError>
+    requires term { a < length terms.old }
+    requires table { AreBlasted terms.old gates.old bits.old }
+    ensures terms { terms.new ≡ terms.old }
+    ensures table { AreBlasted terms.new gates.new bits.new }
+{
+    blast(terms, a, gates, bits)?;
+    blast_and_take_back(terms, a, gates, bits)?;
+    Ok([terms.len(), bits.len(), gates.sizes().vars])
+}
+
+/// The same, and the terms and words once the two's complement is blasted behind it, with its words.
 fn back(alloc: Global, terms: &mut Terms, a: TermId) -> Result<String, AllocError>
     requires { a < length terms.old }
 {
     let mut gates = Gates::new(alloc);
     let mut bits = BitTable::new(alloc);
-    blast(terms, a, &mut gates, &mut bits)?;
-    blast_and_take_back(terms, a, &mut gates, &mut bits)?;
-    let (left, words, vars) = (terms.len(), bits.len(), gates.sizes().vars);
+    let [count, words, vars] = left(terms, a, &mut gates, &mut bits)?;
     blast_negation(terms, a, &mut gates, &mut bits)?;
-    let again = format!(in alloc; "{left} {words} {vars}, {} {}", terms.len(), bits.len())?;
-    match two_words(&bits) {
-        Some((first, second)) => format!(in alloc; "{again}, {first} {second}"),
-        None => Ok(again),
-    }
+    let (all, again, second) = (terms.len(), bits.len(), two_words(&bits));
+    drop(bits);
+    drop(gates);
+    let (place, literals) = second.unwrap_or((0, 0));
+    format!(in alloc; "{count} {words} {vars}, {all} {again}, {place} {literals}")
 }
 
 /// The same of a term that a row writes.
