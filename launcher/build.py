@@ -7,7 +7,6 @@ output file appears beside the module. The kit's clang and linker then make a pr
 the background, which takes the first one's place.
 """
 import os
-import shutil
 import stat
 import sys
 
@@ -101,7 +100,7 @@ def built(now, home):
         with open(os.path.join(home, "unlike"), "w", encoding="utf-8") as file:
             file.write(f"{kit.mark()}\n{unlike}")
         return str(unlike)
-    drop_old(now.name)
+    work.drop_old(kept("quick"), now.name, KEEP)
     return None
 
 
@@ -179,12 +178,3 @@ def optimise_behind(name):
     """Starts the optimised build in the background, where its module still waits and nobody is at it."""
     if os.path.exists(kept("quick", name, "module.bc")) and not locks.is_held("optimise"):
         work.detach([sys.executable, os.path.join(TOP, "launcher", "optimise.py"), name], kept("optimise.log"))
-
-
-def drop_old(name):
-    """Removes all but the last programs of other sources."""
-    above = kept("quick")
-    folders = [os.path.join(above, it) for it in os.listdir(above)]
-    folders.sort(key=lambda it: (os.path.basename(it) != name, -os.stat(it).st_mtime))
-    for folder in folders[KEEP:]:
-        shutil.rmtree(folder, ignore_errors=True)

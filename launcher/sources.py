@@ -12,6 +12,7 @@ from launcher.places import CRATES, TOP, kept
 from launcher.say import Fault
 
 PARTS = ("src", "specs")
+PROVED_PARTS = (*PARTS, "proofs")
 TRIES = 5
 
 
@@ -50,10 +51,10 @@ def crates():
     return order
 
 
-def files(names):
+def files(names, parts=PARTS):
     """Path, size and time of each source file of these crates."""
     found = []
-    todo = [os.path.join(CRATES, name, part) for name in names for part in PARTS]
+    todo = [os.path.join(CRATES, name, part) for name in names for part in parts]
     while todo:
         folder = todo.pop()
         try:
@@ -91,16 +92,23 @@ def current():
     raise Fault("the sources change while they are read: run this again once they stay as they are")
 
 
-def read(order, found):
-    """The sources by reading them."""
+def sum_of(found, beside):
+    """One sum of these files' content and of the text beside it."""
     import hashlib
 
-    total = hashlib.sha256(repr(list(order.values())).encode())
+    total = hashlib.sha256(beside.encode())
     for path, _, _ in found:
         with open(path, "rb") as file:
             content = hashlib.sha256(file.read()).hexdigest()
         total.update(f"{os.path.relpath(path, CRATES)} {content}\n".encode())
-    of_files = total.hexdigest()
+    return total.hexdigest()
+
+
+def read(order, found):
+    """The sources by reading them."""
+    import hashlib
+
+    of_files = sum_of(found, repr(list(order.values())))
     line = kit.line()
     return Sources(of_files, line, hashlib.sha256(f"{of_files}\n{line}".encode()).hexdigest()[:20])
 

@@ -66,6 +66,14 @@ def sweep(prefix):
             shutil.rmtree(kept(name), ignore_errors=True)
 
 
+def drop_old(above, name, keep):
+    """Removes the folders of all but the last few sources, of which this name's is one."""
+    folders = [os.path.join(above, it) for it in os.listdir(above)]
+    folders.sort(key=lambda it: (os.path.basename(it) != name, -os.stat(it).st_mtime))
+    for it in folders[keep:]:
+        shutil.rmtree(it, ignore_errors=True)
+
+
 # ---- tools -------------------------------------------------------------------------------------
 
 
@@ -148,35 +156,48 @@ def detach(words, log):
 # ---- progress ----------------------------------------------------------------------------------
 
 
+class Line:
+    """One line that is rewritten on a terminal each second, and elsewhere put anew where so many seconds have gone by."""
+
+    def __init__(self, between):
+        self.is_live = sys.stderr.isatty()
+        self.between = 1 if self.is_live else between
+        self.spoke = None
+
+    def show(self, text, now=False):
+        """Puts the text that this function gives, where it is time to, or at once."""
+        if not now and self.spoke is not None and time.monotonic() - self.spoke < self.between:
+            return
+        self.spoke = time.monotonic()
+        if self.is_live:
+            print(f"\r\033[Khkv: {text()}", end="", file=sys.stderr, flush=True)
+        else:
+            say(text())
+
+    def clear(self):
+        if self.is_live and self.spoke is not None:
+            print("\r\033[K", end="", file=sys.stderr, flush=True)
+
+
 class Step:
     """One step of several: what it is, how long it runs, and what it took last time."""
 
     def __init__(self, what, place, last):
         self.what, self.place, self.last = what, place, last
-        self.began = self.spoke = time.monotonic()
-        self.is_live = sys.stderr.isatty()
-        self.tell()
+        self.began = time.monotonic()
+        self.line = Line(SECONDS_BETWEEN_LINES)
+        self.tick()
 
     def seconds(self):
         return time.monotonic() - self.began
 
     def tick(self):
         """Says how it stands, where it is time to."""
-        if time.monotonic() - self.spoke >= (1 if self.is_live else SECONDS_BETWEEN_LINES):
-            self.tell()
+        self.line.show(self.told)
 
-    def tell(self):
-        self.spoke = time.monotonic()
-        took = f" ({self.last:.0f} s last time)" if self.last else ""
-        line = f"step {self.place}, {self.what}: {self.seconds():.0f} s{took}"
-        if self.is_live:
-            print(f"\r\033[Khkv: {line}", end="", file=sys.stderr, flush=True)
-        else:
-            say(line)
-
-    def close(self):
-        if self.is_live:
-            print("\r\033[K", end="", file=sys.stderr, flush=True)
+    def told(self):
+        took = f", {self.last:.0f} s last time" if self.last else ""
+        return f"step {self.place}, {self.what}: {self.seconds():.0f} s{took}"
 
 
 class Steps:
@@ -198,7 +219,7 @@ class Steps:
     def close(self):
         if self.now:
             name, step = self.now
-            step.close()
+            step.line.clear()
             self.taken[name] = step.seconds()
             self.now = None
 
