@@ -7,7 +7,7 @@ import os
 import sys
 
 from launcher import sources
-from launcher.places import kept
+from launcher.places import BUILT, kept
 from launcher.say import Fault, say
 
 
@@ -16,7 +16,7 @@ def chosen():
     """The words that run the program, and whether it is the proved one. Decided, and said, once a call."""
     now = sources.current()
     proved = kept("proved", now.name, "hkv")
-    if is_runnable(proved):
+    if is_runnable(proved) or takes_over(now):
         return (proved,), True
     if wants_proved():
         raise Fault(refusal())
@@ -54,6 +54,15 @@ def exec_program(words):
     sys.stdout.flush()
     sys.stderr.flush()
     os.execv(command[0], command)
+
+
+def takes_over(now):
+    """Whether a run of `rt` by hand left the proved program of these sources, which is kept then."""
+    if not is_runnable(BUILT):
+        return False
+    from launcher import adopt
+
+    return adopt.adopted(now)
 
 
 def is_runnable(file):

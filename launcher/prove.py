@@ -3,17 +3,14 @@ command goes on where it was stopped. The program is kept under the name of the 
 """
 import json
 import os
-import shutil
 import time
 
-from launcher import estimate, kit, locks, program, sources, work
+from launcher import adopt, estimate, kit, locks, program, sources, work
 from launcher.places import CRATES, PROGRAM_CRATE, kept
 from launcher.say import Fault, say
 
 USAGE = "hkv prove"
 SECONDS_BETWEEN_LINES = 30
-SECONDS_TO_ADOPT = 60
-KEEP = 2
 LEAST_MEGABYTES = 3000
 ADVICE = """run this again once that is mended: what was proved is kept. Where a process was killed, end others that take memory
 first; where the disk is full, make room. Where a proof failed, compare 'rt version' with README.md, and the sources with git status"""
@@ -26,7 +23,7 @@ def run(words):
         raise Fault(kit.NO_RT)
     with locks.held("prove", "another call is proving; waiting for it"):
         now = sources.current()
-        if not program.is_runnable(kept("proved", now.name, "hkv")):
+        if not program.is_runnable(kept("proved", now.name, "hkv")) and not adopt.adopted(now):
             prove(now)
     say("the proved program of these sources is built, and answers each call from now on")
     return 0
@@ -88,11 +85,7 @@ def keep(now):
     """Keeps the program that was built, where the sources are still those of the beginning."""
     if sources.current() != now:
         raise Fault("the sources changed while they were proved: run this again, which proves what changed")
-    os.makedirs(kept("proved", now.name), exist_ok=True)
-    part = kept("proved", now.name, f"hkv.{os.getpid()}")
-    shutil.copy2(os.path.join(PROGRAM_CRATE, "out", "hkv"), part)
-    os.replace(part, kept("proved", now.name, "hkv"))
-    work.drop_old(kept("proved"), now.name, KEEP)
+    adopt.keep(now)
 
 
 def megabytes_left():

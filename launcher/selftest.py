@@ -104,16 +104,13 @@ def examples():
 
 def try_all(command, groups):
     """What each group of calls came to, several at a time."""
-    line, done = Line(15), 0
-    results = []
+    line = Line(15)
     with concurrent.futures.ThreadPoolExecutor(len(os.sched_getaffinity(0))) as pool:
         waiting = [pool.submit(try_group, command, group) for group in groups]
-        for future in waiting:
-            results.append(future.result())
-            done += 1
-            line.show(lambda count=done: f"{count} of {len(groups)} groups of stored calls")
+        for count, _ in enumerate(concurrent.futures.as_completed(waiting), 1):
+            line.show(lambda: f"{count} of {len(groups)} groups of stored calls")
     line.clear()
-    return results
+    return [it.result() for it in waiting]
 
 
 def try_group(command, group):
