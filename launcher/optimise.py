@@ -3,7 +3,7 @@ of the first build, whole or not at all. Calls that run then keep the file that 
 import os
 import sys
 
-sys.path[0] = os.path.dirname(os.path.dirname(os.path.realpath(__file__)))
+sys.path.insert(0, os.path.dirname(os.path.dirname(os.path.realpath(__file__))))
 
 from launcher import build, locks, work
 from launcher.places import kept

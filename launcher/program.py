@@ -2,7 +2,6 @@
 
 Both are kept by the name of the sources that they were made from. The quick one is built at the first call.
 """
-import functools
 import os
 import sys
 
@@ -11,9 +10,18 @@ from launcher.places import BUILT, kept
 from launcher.say import Fault, say
 
 
-@functools.cache
+_CHOSEN = []
+
+
 def chosen():
     """The words that run the program, and whether it is the proved one. Decided, and said, once a call."""
+    if not _CHOSEN:
+        _CHOSEN.append(choose())
+    return _CHOSEN[0]
+
+
+def choose():
+    """The same, decided now."""
     now = sources.current()
     proved = kept("proved", now.name, "hkv")
     if is_runnable(proved) or takes_over(now):

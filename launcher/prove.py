@@ -31,39 +31,38 @@ def run(words):
 
 def prove(now):
     """Proves and builds the program of these sources."""
-    work.sweep("prove-")
     work.room(megabytes_left())
     say(f"proving and building: {estimate.cost()}. What they say is kept in {kept('prove.log')}")
-    with work.folder("prove-") as room:
+    with work.stoppable():
         progress = Progress()
         try:
             for name in progress.order:
                 if not progress.is_done(name):
-                    library(name, room, progress)
-            build(room, progress)
+                    library(name, progress)
+            build(progress)
         finally:
             progress.line.clear()
     keep(now)
 
 
-def library(name, room, progress):
+def library(name, progress):
     """Proves one library over those below it."""
     progress.begin(name)
-    log = followed(["rt", "lib"], os.path.join(CRATES, name), room, progress, name)
+    log = followed(["rt", "lib"], os.path.join(CRATES, name), progress, name)
     if not os.path.exists(stamp(name)):
         raise Fault(f"{name} was not proved, and 'rt lib' does not say why: {log}")
     progress.end(name)
 
 
-def build(room, progress):
+def build(progress):
     """Proves and builds the program itself, by a run of it, which says its usage."""
     progress.begin("hkv")
-    followed(["rt", "run", "--"], PROGRAM_CRATE, room, progress, "hkv", lambda said: b"\nrt: running " in b"\n" + said)
+    followed(["rt", "run", "--"], PROGRAM_CRATE, progress, "hkv", lambda said: b"\nrt: running " in b"\n" + said)
 
 
-def followed(words, folder, room, progress, name, is_well=None):
+def followed(words, folder, progress, name, is_well=None):
     """Runs a command of the kit to its end, and says on which crate it is; what it said goes to the log."""
-    child = work.start(words, room, cwd=folder)
+    child = work.Child(words, cwd=folder)
     with child:
         while child.runs():
             progress.tick()
