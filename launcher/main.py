@@ -6,6 +6,7 @@ COMMANDS = {
     "prove": ("launcher.prove", "prove everything, and build the program that everything is claimed of"),
     "selftest": ("launcher.selftest", "run every example and stored call of the repository, and compare"),
     "--version": ("launcher.version", "which program runs, of which commit, and the kit's line"),
+    "--program": ("launcher.which", "the words that run the program, for scripts"),
 }
 
 
