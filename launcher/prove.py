@@ -91,8 +91,8 @@ def megabytes_left():
     """The room that is still needed: what proving took when it was measured, less what is kept of it already."""
     facts, _ = estimate.measured()
     try:
-        needed = float(facts["gigabytes"].split()[-1]) * 1000
-    except (KeyError, ValueError, IndexError):
+        needed = float(facts["gigabytes"]) * 1000
+    except (KeyError, ValueError):
         return LEAST_MEGABYTES
     return max(LEAST_MEGABYTES, int(needed - sum(size_of(os.path.join(CRATES, it, "out")) for it in os.listdir(CRATES)) / 1e6))
 
