@@ -9,6 +9,7 @@ import argparse
 import os
 import re
 import resource
+import signal
 import subprocess
 import sys
 import tempfile
@@ -337,6 +338,31 @@ def try_edges(program, count):
     count.tell("a closed output", None if closed.returncode == 6 else f"expected status 6, got {closed.returncode}")
     with tempfile.TemporaryDirectory() as folder:
         try_files(program, count, folder)
+        try_failed_put(program, count, folder)
+
+
+def try_failed_put(program, count, folder):
+    """Behind a line that was not taken no further handler is decided: the second here would take many minutes."""
+    product = "define i64 @{0}(i64 %x, i64 %y) {{\n  %z = add i64 %y, 1\n  %p = mul i64 %x, %z\n  ret i64 %p\n}}\n"
+    quick = "define i64 @{0}(i64 %x, i64 %y) {{\n  ret i64 %x\n}}\n"
+    write(folder, "slow.ll", quick.format("quick") + product.format("slow"))
+    write(folder, "slow.py", "def quick(state, x, y):\n    return True, state, x\ndef slow(state, x, y):\n    return True, state, x * y + x\n")
+    words = ["verify", "slow.ll", "slow.py", "--conflicts", "1000000"]
+
+    def room_for_one_line():
+        signal.signal(signal.SIGXFSZ, signal.SIG_IGN)
+        resource.setrlimit(resource.RLIMIT_FSIZE, (len(HOLDS), len(HOLDS)))
+
+    shown = os.path.join(folder, "shown")
+    try:
+        with open(shown, "wb") as out:
+            done = call(program, words, folder, stdout=out, preexec_fn=room_for_one_line, restore_signals=False)
+        with open(shown, "rb") as file:
+            got = file.read(), done.returncode
+        wrong = None if got == (HOLDS.encode(), 6) else f"got {got}"
+    except subprocess.TimeoutExpired:
+        wrong = "a later handler was decided"
+    count.tell("no handler is decided behind a line that was not taken", wrong)
 
 
 def write(folder, name, text):
