@@ -11,7 +11,7 @@
 #define NFD 4 /* descriptors of a process */
 #endif
 #ifndef NFILE
-#define NFILE 4 /* open files */
+#define NFILE 3 /* open files */
 #endif
 #ifndef NPIPE
 #define NPIPE 2 /* pipes */
@@ -23,10 +23,10 @@
 #define NMIDDLE 4 /* page tables of the middle level */
 #endif
 #ifndef NLEAF
-#define NLEAF 6 /* page tables of the lowest level */
+#define NLEAF 4 /* page tables of the lowest level */
 #endif
 #ifndef NFRAME
-#define NFRAME 8 /* frames: pages of a process's own */
+#define NFRAME 6 /* frames: pages of a process's own */
 #endif
 #ifndef ROOTE
 #define ROOTE 2 /* entries of a root that are used; a table has 512 */
@@ -47,13 +47,13 @@
 #define NKERNEL 1 /* pages of the kernel's tables that may be looked at */
 #endif
 #ifndef NVECTOR
-#define NVECTOR 4 /* interrupt vectors */
+#define NVECTOR 2 /* interrupt vectors */
 #endif
 #ifndef NSOURCE
 #define NSOURCE 16 /* sources of the board's interrupt controller */
 #endif
 #define NDEVICE 2 /* device pages: the serial port, the clock */
-#define NPORT 4   /* single registers of the board */
+#define NPORT 2   /* single registers of the board */
 
 #define INIT (NPROC - 1) /* the process that runs at boot and never sleeps */
 
@@ -62,9 +62,9 @@
 #define KERNEL_AT 0x80020000 /* the kernel's small tables */
 #define IMAGE_AT 0x80040000  /* the text of the user programs */
 #define ROOTS_AT 0x80100000
-#define MIDDLES_AT 0x80140000
-#define LEAVES_AT 0x80180000
-#define FRAMES_AT 0x80200000
+#define MIDDLES_AT (ROOTS_AT + NPROC * 4096)
+#define LEAVES_AT (MIDDLES_AT + NMIDDLE * 4096)
+#define FRAMES_AT (LEAVES_AT + NLEAF * 4096)
 #define SERIAL_AT 0x10000000
 #define CLOCK_AT 0x101000
 

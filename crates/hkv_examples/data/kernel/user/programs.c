@@ -66,6 +66,7 @@ static int64_t start(uint32_t pid, void (*program)(uint32_t), uint32_t arg) {
     return sys_start(pid, (uint32_t)(uint64_t)program, (uint32_t)AT(STACK + 1), arg);
 }
 
+/* Clears a frame that nobody has, as far as it is not cleared. */
 static int64_t clear(uint32_t frame) {
     for (int word = 0; word < NWORD; word++)
         if (sys_clear_word(frame))
@@ -188,6 +189,19 @@ static void runs_its_stack(uint32_t arg) {
     sys_exit(0);
 }
 
+static void looks_at_a_frame_it_gave_back(uint32_t frame) {
+    if (sys_alloc_frame(0, SPARE, frame, WRITE) == 0)
+        WORD(SPARE) = 99;
+    sys_free_frame(frame);
+    sys_exit(WORD(SPARE));
+}
+
+static void writes_a_frame_to_be_read(uint32_t frame) {
+    if (sys_alloc_frame(0, SPARE, frame, READ) == 0 && sys_move_frame(frame, 0, SECOND) == 0)
+        WORD(SECOND) = 99;
+    sys_exit(0);
+}
+
 static void asks_for_the_machine(uint32_t arg) {
     __asm__ volatile("csrw satp, %0" : : "r"((uint64_t)arg));
     sys_exit(0);
@@ -258,7 +272,7 @@ static void intruder(uint32_t arg) {
 /* ---- What INIT shows ---- */
 
 static void shows_files(void) {
-    say("file: made", sys_create_file(0, 3, 77));
+    say("file: made", sys_create_file(0, 1, 77));
     say("file: kind", sys_file_kind(0));
     say("file: value", sys_file_value(0));
     say("file: seek", sys_seek(0, 5));
@@ -343,8 +357,10 @@ static void shows_orphan(void) {
 }
 
 static void shows_fault(const char *text, void (*program)(uint32_t)) {
-    int64_t failed = make(0) | start(0, program, 0);
+    int64_t failed = make(0) | start(0, program, 2);
     say(text, ended(0));
+    sys_free_frame(2);
+    clear(2);
     if (failed | bury(0))
         put("not all taken back\n");
 }
@@ -372,6 +388,8 @@ void main(void) {
     shows_fault("fault: writes the text, cause", writes_the_text);
     shows_fault("fault: writes the kernel's page, cause", writes_the_kernels_page);
     shows_fault("fault: runs its stack, cause", runs_its_stack);
+    shows_fault("fault: looks at a frame it gave back, cause", looks_at_a_frame_it_gave_back);
+    shows_fault("fault: writes a frame to be read, cause", writes_a_frame_to_be_read);
     shows_fault("fault: sets the root of its memory, cause", asks_for_the_machine);
     shows_intruder();
     say("interrupt: given back", sys_free_source(10) | sys_free_vector(1));
