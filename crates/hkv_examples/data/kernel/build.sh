@@ -2,7 +2,9 @@
 # What comes in are the texts of this folder; what goes out is in out/ (and, of compile, kernel.ll).
 #
 #   build.sh compile              makes kernel.ll, the text that is verified and linked, from kernel.c
+#   build.sh text FILE            makes the text alone, as for the sizes of SIZES="-DNFRAME=16 .."
 #   build.sh verify [HANDLER ..]  has hkv decide all handlers, or each of these by itself, from kernel.ll
+#   build.sh clean                has hkv decide the property of clean.py for frames of 8 words
 #   build.sh image                makes the object from kernel.ll, and links it with boot code and user programs
 #   build.sh same                 shows that the image is made from kernel.ll, and kernel.ll from kernel.c
 #   build.sh boot                 runs the image in QEMU without a screen, and compares its console with expected.txt
@@ -19,7 +21,7 @@ mkdir -p out
 
 compile() { # compile FROM TO: the text that clang writes
   # shellcheck disable=SC2086 # several words, here and below
-  "$clang" $target ${SIZES:-} -O1 -g -fdebug-prefix-map="$PWD=." -I "$PWD" -S -emit-llvm -o "$2" -x c - <"$1"
+  "$clang" $target ${SIZES:-} -O1 -g -fdebug-prefix-map="$PWD=." -I "$PWD" -S -emit-llvm -o "$2" "$1"
 }
 
 link() { # link TEXT FOLDER: the object of the kernel's text, and the image with it
@@ -67,6 +69,9 @@ compile)
     echo 'kernel.ll is new'
   fi
   ;;
+text)
+  compile kernel.c "$1"
+  ;;
 verify)
   if [ $# -eq 0 ]; then
     "$hkv" verify kernel.ll kernel.py
@@ -74,6 +79,15 @@ verify)
   for handler; do
     python3 ../only.py kernel.py "$handler" >out/only.py
     "$hkv" verify kernel.ll out/only.py | sed '/^init holds$/d'
+  done
+  ;;
+clean)
+  SIZES=-DNWORD=8
+  compile kernel.c out/clean.ll
+  for handler in sys_alloc_frame sys_clear_word sys_copy_word; do # the handlers that write what it speaks of
+    python3 sized.py NWORD=8 | cat - clean.py >out/clean.py
+    python3 ../only.py out/clean.py "$handler" >out/only.py
+    "$hkv" verify out/clean.ll out/only.py
   done
   ;;
 image)

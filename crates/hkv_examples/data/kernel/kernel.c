@@ -48,6 +48,7 @@ uint32_t msg_value[NPROC];
 uint32_t fds[NPROC][NFD]; /* 0, or the file plus 1 */
 uint32_t file_kind[NFILE];
 uint32_t file_owner[NFILE];
+uint32_t file_fds[NFILE];   /* the owner's descriptors that name it: a bit for each */
 uint32_t file_value[NFILE]; /* the pipe, where the file is an end of one */
 uint32_t file_offset[NFILE];
 uint32_t pipe_reader[NPIPE]; /* 0, or the file that is its end, plus 1 */
@@ -267,6 +268,7 @@ static inline void open(uint32_t fd, uint32_t file, uint32_t kind, uint32_t valu
     fds[current][fd] = file + 1;
     file_kind[file] = kind;
     file_owner[file] = current;
+    file_fds[file] = 1u << fd;
     file_value[file] = value;
     file_offset[file] = 0;
 }
@@ -276,16 +278,11 @@ static inline uint32_t named(uint32_t fd) {
     return fd < NFD ? fds[current][fd] - 1 : NFILE;
 }
 
-/* Whether another descriptor of the process than fd names the same file. */
-static inline uint32_t is_shared(uint32_t pid, uint32_t fd) {
-    uint32_t others = 0;
-    UNROLL for (uint32_t i = 0; i < NFD; i++)
-        others |= (i != fd) & (fds[pid][i] == fds[pid][fd]);
-    return others;
-}
-
-/* Ends a file that no descriptor names. */
-static inline void end_file(uint32_t file) {
+/* Takes a descriptor from a file, and ends the file with its last one. */
+static inline void drop(uint32_t file, uint32_t fd) {
+    file_fds[file] &= ~(1u << fd);
+    if (file_fds[file] != 0)
+        return;
     if (file_kind[file] == PIPE_READ)
         pipe_reader[file_value[file]] = 0;
     if (file_kind[file] == PIPE_WRITE)
@@ -304,8 +301,7 @@ int32_t sys_create_file(uint32_t fd, uint32_t file, uint32_t value) {
 int32_t sys_close(uint32_t pid, uint32_t fd) {
     if (!may_take(pid) || fd >= NFD || fds[pid][fd] == 0)
         return -1;
-    if (!is_shared(pid, fd))
-        end_file(fds[pid][fd] - 1);
+    drop(fds[pid][fd] - 1, fd);
     fds[pid][fd] = 0;
     return 0;
 }
@@ -314,6 +310,7 @@ int32_t sys_dup(uint32_t oldfd, uint32_t newfd) {
     if (oldfd >= NFD || newfd >= NFD || fds[current][oldfd] == 0 || fds[current][newfd] != 0)
         return -1;
     fds[current][newfd] = fds[current][oldfd];
+    file_fds[fds[current][oldfd] - 1] |= 1u << newfd;
     return 0;
 }
 
@@ -323,19 +320,20 @@ int32_t sys_dup2(uint32_t oldfd, uint32_t newfd) {
         return -1;
     if (fds[current][oldfd] == fds[current][newfd])
         return -1;
-    if (!is_shared(current, newfd))
-        end_file(fds[current][newfd] - 1);
+    drop(fds[current][newfd] - 1, newfd);
+    file_fds[fds[current][oldfd] - 1] |= 1u << newfd;
     fds[current][newfd] = fds[current][oldfd];
     return 0;
 }
 
 /* Hands a file that one descriptor names to a child that has not begun. */
 int32_t sys_transfer(uint32_t fd, uint32_t pid, uint32_t newfd) {
-    if (fd >= NFD || newfd >= NFD || fds[current][fd] == 0 || is_shared(current, fd))
+    if (fd >= NFD || newfd >= NFD || fds[current][fd] == 0 || file_fds[fds[current][fd] - 1] != 1u << fd)
         return -1;
     if (!is_child(pid, EMBRYO) || pid == current || fds[pid][newfd] != 0)
         return -1;
     file_owner[fds[current][fd] - 1] = pid;
+    file_fds[fds[current][fd] - 1] = 1u << newfd;
     fds[pid][newfd] = fds[current][fd];
     fds[current][fd] = 0;
     return 0;
@@ -469,11 +467,14 @@ int32_t sys_send_page(uint32_t pid, uint32_t value, uint32_t frame) {
 
 /* Sends a file that one descriptor of the caller names. */
 int32_t sys_send_file(uint32_t pid, uint32_t value, uint32_t fd) {
-    if (!awaits(pid) || pid == current || fd >= NFD || fds[current][fd] == 0 || is_shared(current, fd))
+    if (!awaits(pid) || pid == current || fd >= NFD || fds[current][fd] == 0)
+        return -1;
+    if (file_fds[fds[current][fd] - 1] != 1u << fd)
         return -1;
     if (recv_fd[pid] >= NFD || fds[pid][recv_fd[pid]] != 0)
         return -1;
     file_owner[fds[current][fd] - 1] = pid;
+    file_fds[fds[current][fd] - 1] = 1u << recv_fd[pid];
     fds[pid][recv_fd[pid]] = fds[current][fd];
     fds[current][fd] = 0;
     deliver(pid, value);

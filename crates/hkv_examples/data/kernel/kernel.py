@@ -92,6 +92,7 @@ class State:
     proc_fd = Map((PidT, FdT), Bits(32))
     file_kind = Map(FileT, Bits(32))
     file_owner = Map(FileT, Bits(32))
+    file_fds = Map(FileT, Bits(32))
     file_value = Map(FileT, Bits(32))
     file_offset = Map(FileT, Bits(32))
     pipe_reader = Map(PipeT, Bits(32))
@@ -158,6 +159,7 @@ def equiv(kernel, state):
         ForAll([p, d], state.proc_fd(p, d) == kernel.fds[p][d]),
         ForAll([f], state.file_kind(f) == kernel.file_kind[f]),
         ForAll([f], state.file_owner(f) == kernel.file_owner[f]),
+        ForAll([f], state.file_fds(f) == kernel.file_fds[f]),
         ForAll([f], state.file_value(f) == kernel.file_value[f]),
         ForAll([f], state.file_offset(f) == kernel.file_offset[f]),
         ForAll([k], state.pipe_reader(k) == kernel.pipe_reader[k]),
@@ -282,13 +284,18 @@ def prop_free_devices(state):
 
 # ---- Files ----
 
-# A descriptor leads to an open file, of its own process.
+# A descriptor leads to a file of its own process, and a file knows all descriptors that lead to it.
 def prop_descriptor(state):
     p = Var(PidT)
     d = Var(FdT)
     f = Var(FileT)
-    return ForAll([p, d, f], Implies(state.proc_fd(p, d) == f + 1,
-        And(state.file_kind(f) != NONE, state.file_owner(f) == p)))
+    return ForAll([p, d, f], (state.proc_fd(p, d) == f + 1) ==
+        And(state.file_owner(f) == p, (LShR(state.file_fds(f), d) & 1) == 1))
+
+# A file is open exactly where a descriptor leads to it.
+def prop_open(state):
+    f = Var(FileT)
+    return ForAll([f], And((state.file_kind(f) != NONE) == (state.file_fds(f) != 0), LShR(state.file_fds(f), NFD) == 0))
 
 # A pipe has one end to read from at most, and knows it; and so one to write to.
 def prop_pipe(state):
@@ -484,54 +491,56 @@ def sys_create_file(state, fd, file, value):
     new.proc_fd[pid, fd] = file + 1
     new.file_kind[file] = PLAIN
     new.file_owner[file] = pid
+    new.file_fds[file] = 1 << fd
     new.file_value[file] = value
     new.file_offset[file] = 0
     return And(ULT(fd, NFD), ULT(file, NFILE), state.proc_fd(pid, fd) == 0, state.file_kind(file) == NONE), new
 
 def sys_close(state, pid, fd):
-    d = Var(FdT)
     file = state.proc_fd(pid, fd) - 1
-    shared = Exists([d], And(d != fd, state.proc_fd(pid, d) == state.proc_fd(pid, fd)))
+    left = state.file_fds(file) & ~(1 << fd)
+    end = state.file_value(file)
     new = state.copy()
     new.proc_fd[pid, fd] = 0
-    new.pipe_reader[state.file_value(file)] = If(And(Not(shared), state.file_kind(file) == PIPE_READ), 0,
-        state.pipe_reader(state.file_value(file)))
-    new.pipe_writer[state.file_value(file)] = If(And(Not(shared), state.file_kind(file) == PIPE_WRITE), 0,
-        state.pipe_writer(state.file_value(file)))
-    new.file_kind[file] = If(shared, state.file_kind(file), NONE)
+    new.file_fds[file] = left
+    new.file_kind[file] = If(left == 0, NONE, state.file_kind(file))
+    new.pipe_reader[end] = If(And(left == 0, state.file_kind(file) == PIPE_READ), 0, state.pipe_reader(end))
+    new.pipe_writer[end] = If(And(left == 0, state.file_kind(file) == PIPE_WRITE), 0, state.pipe_writer(end))
     return And(state.proc_fd(pid, fd) != 0, Or(pid == state.current, And(state.proc_parent(pid) == state.current,
         Or(state.proc_state(pid) == EMBRYO, state.proc_state(pid) == ZOMBIE)))), new
 
 def sys_dup(state, oldfd, newfd):
     pid = state.current
+    file = state.proc_fd(pid, oldfd) - 1
     new = state.copy()
     new.proc_fd[pid, newfd] = state.proc_fd(pid, oldfd)
+    new.file_fds[file] = state.file_fds(file) | 1 << newfd
     return And(ULT(newfd, NFD), state.proc_fd(pid, oldfd) != 0, state.proc_fd(pid, newfd) == 0), new
 
 def sys_dup2(state, oldfd, newfd):
-    d = Var(FdT)
     pid = state.current
+    kept = state.proc_fd(pid, oldfd) - 1
     file = state.proc_fd(pid, newfd) - 1
-    shared = Exists([d], And(d != newfd, state.proc_fd(pid, d) == state.proc_fd(pid, newfd)))
+    left = state.file_fds(file) & ~(1 << newfd)
+    end = state.file_value(file)
     new = state.copy()
     new.proc_fd[pid, newfd] = state.proc_fd(pid, oldfd)
-    new.pipe_reader[state.file_value(file)] = If(And(Not(shared), state.file_kind(file) == PIPE_READ), 0,
-        state.pipe_reader(state.file_value(file)))
-    new.pipe_writer[state.file_value(file)] = If(And(Not(shared), state.file_kind(file) == PIPE_WRITE), 0,
-        state.pipe_writer(state.file_value(file)))
-    new.file_kind[file] = If(shared, state.file_kind(file), NONE)
+    new.file_fds[file] = left
+    new.file_fds[kept] = state.file_fds(kept) | 1 << newfd
+    new.file_kind[file] = If(left == 0, NONE, state.file_kind(file))
+    new.pipe_reader[end] = If(And(left == 0, state.file_kind(file) == PIPE_READ), 0, state.pipe_reader(end))
+    new.pipe_writer[end] = If(And(left == 0, state.file_kind(file) == PIPE_WRITE), 0, state.pipe_writer(end))
     return And(state.proc_fd(pid, oldfd) != 0, state.proc_fd(pid, newfd) != 0,
         state.proc_fd(pid, oldfd) != state.proc_fd(pid, newfd)), new
 
 def sys_transfer(state, fd, pid, newfd):
-    d = Var(FdT)
     file = state.proc_fd(state.current, fd) - 1
     new = state.copy()
     new.file_owner[file] = pid
+    new.file_fds[file] = 1 << newfd
     new.proc_fd[pid, newfd] = state.proc_fd(state.current, fd)
     new.proc_fd[state.current, fd] = 0
-    return And(ULT(newfd, NFD), state.proc_fd(state.current, fd) != 0,
-        ForAll([d], Or(d == fd, state.proc_fd(state.current, d) != state.proc_fd(state.current, fd))),
+    return And(ULT(newfd, NFD), state.proc_fd(state.current, fd) != 0, state.file_fds(file) == 1 << fd,
         state.proc_state(pid) == EMBRYO, state.proc_parent(pid) == state.current, pid != state.current,
         state.proc_fd(pid, newfd) == 0), new
 
@@ -544,6 +553,8 @@ def sys_pipe(state, readfd, readfile, writefd, writefile, pipe):
     new.file_kind[writefile] = PIPE_WRITE
     new.file_owner[readfile] = pid
     new.file_owner[writefile] = pid
+    new.file_fds[readfile] = 1 << readfd
+    new.file_fds[writefile] = 1 << writefd
     new.file_value[readfile] = pipe
     new.file_value[writefile] = pipe
     new.file_offset[readfile] = 0
@@ -636,10 +647,10 @@ def sys_send_page(state, pid, value, frame):
         ULT(index, LEAFE), state.leaf_entry(leaf, index) == 0), new
 
 def sys_send_file(state, pid, value, fd):
-    d = Var(FdT)
     file = state.proc_fd(state.current, fd) - 1
     new = state.copy()
     new.file_owner[file] = pid
+    new.file_fds[file] = 1 << state.recv_fd(pid)
     new.proc_fd[pid, state.recv_fd(pid)] = state.proc_fd(state.current, fd)
     new.proc_fd[state.current, fd] = 0
     new.proc_state[pid] = RUNNABLE
@@ -648,8 +659,7 @@ def sys_send_file(state, pid, value, fd):
     new.msg_value[pid] = value
     return And(state.proc_state(pid) == SLEEPING,
         Or(state.recv_from(pid) == state.current + 1, state.recv_from(pid) == NPROC + 1),
-        pid != state.current, state.proc_fd(state.current, fd) != 0,
-        ForAll([d], Or(d == fd, state.proc_fd(state.current, d) != state.proc_fd(state.current, fd))),
+        pid != state.current, state.proc_fd(state.current, fd) != 0, state.file_fds(file) == 1 << fd,
         ULT(state.recv_fd(pid), NFD), state.proc_fd(pid, state.recv_fd(pid)) == 0), new
 
 def sys_call(state, pid, value):
