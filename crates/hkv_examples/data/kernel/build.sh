@@ -46,7 +46,7 @@ run() { # run FOLDER: what the image writes on its console, within a minute
 }
 
 rows() { # rows [BUG ..]: of the table of README.md `NAME HANDLER OBLIGATION | what the console says with it`
-  sed -n 's/^| `\([a-z_]*\)` | [^|]* | `\([a-z_]*\)` | `\([a-z_ ]*\)` | \(.*\) |$/\1 \2 \3|\4/p' README.md |
+  sed -n 's/^| `\([a-z_]*\)` | [^|]* | `\([a-z_]*\)` | `\([a-z_ ]*\)` | *\(.*\)|$/\1 \2 \3|\4/p' README.md | sed 's/ *$//' |
     if [ $# -gt 0 ]; then grep -E "^($(echo "$*" | tr ' ' '|')) "; else cat; fi
 }
 

@@ -345,14 +345,16 @@ def prop_root_words(state):
     i = Var(RootEntryT)
     return ForAll([p, i], Or(state.root_entry(p, i) == 0, And(
         (state.root_entry(p, i) & 1023) == POINTER,
-        ULT(LShR(state.root_entry(p, i), 10) - MIDDLES, NMIDDLE))))
+        UGE(LShR(state.root_entry(p, i), 10), MIDDLES),
+        ULT(LShR(state.root_entry(p, i), 10), MIDDLES + NMIDDLE))))
 
 def prop_middle_words(state):
     m = Var(MiddleT)
     j = Var(MiddleEntryT)
     return ForAll([m, j], Or(state.middle_entry(m, j) == 0, And(
         (state.middle_entry(m, j) & 1023) == POINTER,
-        ULT(LShR(state.middle_entry(m, j), 10) - LEAVES, NLEAF))))
+        UGE(LShR(state.middle_entry(m, j), 10), LEAVES),
+        ULT(LShR(state.middle_entry(m, j), 10), LEAVES + NLEAF))))
 
 # An entry of a leaf is empty, or leads to a frame (not writable and executable at once), to the text of the programs
 # (not writable), to the kernel's small tables (neither), or to a device page (not executable).
@@ -360,10 +362,13 @@ def prop_leaf_words(state):
     l = Var(LeafT)
     e = Var(LeafEntryT)
     return ForAll([l, e], Or(state.leaf_entry(l, e) == 0,
-        And(ULT(LShR(state.leaf_entry(l, e), 10) - FRAMES, NFRAME), Or((state.leaf_entry(l, e) & 1023) == PAGE,
-            (state.leaf_entry(l, e) & 1023) == PAGE_W, (state.leaf_entry(l, e) & 1023) == PAGE_X)),
-        And(ULT(LShR(state.leaf_entry(l, e), 10) - IMAGE, NIMAGE), (state.leaf_entry(l, e) & 1023) == PAGE_X),
-        And(ULT(LShR(state.leaf_entry(l, e), 10) - KERNEL, NKERNEL), (state.leaf_entry(l, e) & 1023) == PAGE),
+        And(UGE(LShR(state.leaf_entry(l, e), 10), FRAMES), ULT(LShR(state.leaf_entry(l, e), 10), FRAMES + NFRAME),
+            Or((state.leaf_entry(l, e) & 1023) == PAGE, (state.leaf_entry(l, e) & 1023) == PAGE_W,
+                (state.leaf_entry(l, e) & 1023) == PAGE_X)),
+        And(UGE(LShR(state.leaf_entry(l, e), 10), IMAGE), ULT(LShR(state.leaf_entry(l, e), 10), IMAGE + NIMAGE),
+            (state.leaf_entry(l, e) & 1023) == PAGE_X),
+        And(UGE(LShR(state.leaf_entry(l, e), 10), KERNEL), ULT(LShR(state.leaf_entry(l, e), 10), KERNEL + NKERNEL),
+            (state.leaf_entry(l, e) & 1023) == PAGE),
         And(Or(LShR(state.leaf_entry(l, e), 10) == SERIAL, LShR(state.leaf_entry(l, e), 10) == CLOCK),
             (state.leaf_entry(l, e) & 1023) == PAGE_W)))
 
