@@ -46,6 +46,7 @@ run() { # run FOLDER: what the image writes on its console, within a minute
 }
 
 rows() { # rows [BUG ..]: of the table of README.md `NAME HANDLER OBLIGATION | what the console says with it`
+  # shellcheck disable=SC2016 # the quotes of a table in Markdown
   sed -n 's/^| `\([a-z_]*\)` | [^|]* | `\([a-z_]*\)` | `\([a-z_ ]*\)` | *\(.*\)|$/\1 \2 \3|\4/p' README.md | sed 's/ *$//' |
     if [ $# -gt 0 ]; then grep -E "^($(echo "$*" | tr ' ' '|')) "; else cat; fi
 }
@@ -101,6 +102,7 @@ same)
   [ -e out/kernel.elf ] || link kernel.ll out
   cmp out/kernel.elf out/again/kernel.elf && echo 'the image is, byte for byte, what is made from kernel.ll'
   # The link map has under each part of an object the names that it defines.
+  # shellcheck disable=SC2013 # names of functions
   for name in $(sed -n 's/^    CALL(\([a-z_]*\)).*/\1/p' calls.h); do
     awk -v name="$name" '$5 ~ /\.o:\(/ { object = $5 } $5 == name && object == "kernel.o:(.text)" { found = 1 }
       END { if (!found) { print name " is not of kernel.o"; exit 1 } }' out/again/kernel.map
