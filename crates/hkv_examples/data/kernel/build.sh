@@ -87,7 +87,7 @@ clean)
   compile kernel.c out/clean.ll
   for handler in sys_alloc_frame sys_clear_word sys_copy_word; do # the handlers that write what it speaks of
     python3 sized.py NWORD=8 | cat - clean.py >out/clean.py
-    python3 part.py out/clean.py prop_cleared prop_clean >out/part.py
+    python3 part.py out/clean.py prop_running prop_cleared prop_clean >out/part.py
     python3 ../only.py out/part.py "$handler" >out/only.py
     "$hkv" verify out/clean.ll out/only.py
   done
