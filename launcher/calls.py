@@ -5,13 +5,24 @@ What comes in: the words as `options` took them apart. What goes out: the exit s
 import os
 
 from launcher import ending, handlers, output, program
-from launcher.options import REFUSED, Misused
+from launcher.options import Misused
 
 CERT_LIMIT = 268_435_456
 
 
 def run(asked):
-    """Answers the call, in a folder that goes with it."""
+    """Answers the call; the exit status."""
+    ending.watch()
+    try:
+        return answered(asked)
+    except ending.Interrupted as end:
+        return ending.leave(end.number)
+    except output.Lost:
+        return output.STATUS
+
+
+def answered(asked):
+    """Answers it in a folder that goes with it, where a signal is raised."""
     with handlers.Folder() as folder:
         if not any(option in asked.given for option in ("--only", "--jobs", "--hosts")):
             return decide(asked, asked.names)
@@ -20,7 +31,7 @@ def run(asked):
         try:
             texts = handlers.read(*asked.names[:2], folder)
         except handlers.Answered as answered:
-            return refused(asked, answered)
+            return handlers.told(asked.command, asked.names, answered)
         wanted = chosen(asked.given.get("--only"), texts.names())
         if "--jobs" in asked.given or "--hosts" in asked.given:
             from launcher import jobs
@@ -57,12 +68,3 @@ def chosen(only, names):
         raise Misused(f"--only {unknown[0]}: the specification has no transition of that name; it has {', '.join(names) or 'none'}")
     return [name for name in names if not only or name in only]
 
-
-def refused(asked, answered):
-    """Shows the program's answer to texts that it does not read."""
-    output.put(answered.shown)
-    if answered.status == REFUSED:
-        from launcher import kinds
-
-        kinds.tell(asked.fixed())
-    return answered.status

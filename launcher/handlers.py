@@ -25,7 +25,7 @@ SPEC_LIMIT = 1_048_576
 BLANKS = b" \t\r"
 DEF = re.compile(rb"def[ \t\r]+([A-Za-z_][A-Za-z0-9_]*)")
 BRACKET = re.compile(rb"[()\[\]]")
-USAGE = "usage: hkv handlers KERNEL SPEC"
+USAGE = "hkv handlers KERNEL SPEC"
 
 
 class Answered(Exception):
@@ -162,13 +162,21 @@ def run(words):
     import sys
 
     if len(words) != 2:
-        print(USAGE, file=sys.stderr)
-        return 4
+        return program.misused(USAGE)
     with Folder() as folder:
         try:
             texts = read(*words, folder)
         except Answered as answered:
-            sys.stdout.buffer.write(answered.shown)
-            return answered.status
+            return told("handlers", words, answered)
     sys.stdout.write("".join(f"{name}\n" for name in texts.names()))
     return 0
+
+
+def told(command, words, answered):
+    """Shows the program's answer to texts that it does not read; its status."""
+    from launcher import kinds, output
+
+    output.put(answered.shown)
+    if answered.status == 3:
+        kinds.tell([command, *words])
+    return answered.status

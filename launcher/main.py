@@ -9,6 +9,9 @@ COMMANDS = {
     "premises": ("launcher.premises", "print what a verdict of two texts rests on"),
     "prove": ("launcher.prove", "prove everything, and build the program that everything is claimed of"),
     "selftest": ("launcher.selftest", "run every example and stored call of the repository, and compare"),
+    "--help": ("launcher.help", "this page, or with a command its own"),
+    "-h": ("launcher.help", ""),
+    "help": ("launcher.help", ""),
     "--version": ("launcher.version", "which program runs, of which commit, and the kit's line"),
 }
 

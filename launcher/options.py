@@ -5,7 +5,7 @@ status, once the program has answered on standard output. `--only`, `--time`, `-
 `handlers`, `timing` and `jobs`. An option is one of those listed here; a file of such a name is written `./--time`, and behind `--` all
 words are names.
 """
-from launcher import ending, program
+from launcher import program
 from launcher.say import say
 
 # The options of a command, each with whether a value stands behind it.
@@ -52,15 +52,6 @@ class Asked:
 
 def run(words):
     """Answers a call of the program's commands, or words without a form; the exit status."""
-    ending.watch()
-    try:
-        return answered(words)
-    except ending.Interrupted as end:
-        return ending.leave(end.number)
-
-
-def answered(words):
-    """The same, where a signal is raised."""
     command = words[0] if words else ""
     if command not in OPTIONS or not any(word.startswith("-") for word in words):
         return shown(command) if command in PROGRAMS_OWN and words[1:2] and words[1] in HELP else answer(words)
@@ -159,7 +150,7 @@ def answer(words):
     """The program's answer to words of its own, with a hint where they have no form; the exit status."""
     if not has_form(words):
         return misused(words[0] if words else "", "")
-    status = ending.call([*program.argv(), *words])
+    status = program.run(words).returncode
     if status == REFUSED:
         from launcher import kinds
 
