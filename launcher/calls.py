@@ -5,7 +5,7 @@ What comes in: the words as `options` took them apart. What goes out: the exit s
 import os
 
 from launcher import ending, handlers, output, program
-from launcher.options import Misused
+from launcher.options import REPORTED, Misused
 
 CERT_LIMIT = 268_435_456
 
@@ -25,22 +25,36 @@ def answered(asked):
     """Answers it in a folder that goes with it, where a signal is raised."""
     with handlers.Folder() as folder:
         if not any(option in asked.given for option in ("--only", "--jobs", "--hosts")):
-            return decide(asked, asked.names)
+            return beside(decide(asked, asked.names), asked, asked.names)
         if not is_loadable(asked.names[2:]):
             return ending.call([*program.argv(), *asked.fixed()])  # for its words on the first file that cannot be loaded
         try:
             texts = handlers.read(*asked.names[:2], folder)
-        except handlers.Answered as answered:
-            return handlers.told(asked.command, asked.names, answered)
+        except handlers.Answered as answer:
+            return handlers.told(asked.command, asked.names, answer)
         wanted = chosen(asked.given.get("--only"), texts.names())
-        if "--jobs" in asked.given or "--hosts" in asked.given:
-            from launcher import jobs
+        return beside(over(asked, texts, wanted, folder), asked, texts)
 
-            return jobs.run(asked, texts, wanted, folder)
-        spec = os.path.join(folder, "only.py")
-        with open(spec, "wb") as file:
-            file.write(texts.only(wanted))
-        return decide(asked, [texts.kernel, spec, *asked.names[2:]])
+
+def over(asked, texts, wanted, folder):
+    """The answer over these handlers of texts that are read."""
+    if "--jobs" in asked.given or "--hosts" in asked.given:
+        from launcher import jobs
+
+        return jobs.run(asked, texts, wanted, folder)
+    spec = os.path.join(folder, "only.py")
+    with open(spec, "wb") as file:
+        file.write(texts.only(wanted))
+    return decide(asked, [texts.kernel, spec, *asked.names[2:]])
+
+
+def beside(status, asked, names):
+    """Says beside a report, if it is one, which functions nothing is said of; the status."""
+    if asked.command == "verify" and status in REPORTED:
+        from launcher import unnamed
+
+        unnamed.tell(*names[:2])
+    return status
 
 
 def decide(asked, names):

@@ -7,25 +7,26 @@ How both are read whole at the price of reading them: the handlers are looked up
 certificate that says `memory` of each of them. It reads both texts as `verify` does, refuses what that refuses in the same words, says
 `not claimed NAME` for each handler in its order, and decides nothing. Another list of handlers than the text's own would be refused by Q3.
 
-How one handler is left alone: the lines of the other transitions are made empty, so each line keeps its number. Of a text that is read, a
-transition can be taken away: no other line names it, and no other transition's meaning depends on it. A text that is not read may lose
-its fault with a transition (a name twice, the 257th handler), which is why the whole text is read first.
+A text that is not read may lose its fault with a transition that is taken away (a name twice, the 257th handler), which is why `--only`
+and `--jobs` have the whole text read first, so.
 """
 import os
-import re
 import shutil
 import subprocess
 import tempfile
 from typing import NamedTuple
 
 from launcher import program, say
+from launcher.transitions import only, transitions
 
 KERNEL_LIMIT = 16_777_216
 SPEC_LIMIT = 1_048_576
-BLANKS = b" \t\r"
-DEF = re.compile(rb"def[ \t\r]+([A-Za-z_][A-Za-z0-9_]*)")
-BRACKET = re.compile(rb"[()\[\]]")
 USAGE = "hkv handlers KERNEL SPEC"
+HELP = """\
+Prints the handlers of the specification in its order, a line each, where the program reads both texts; else its refusal.
+
+Statuses: 0; 3 a text is refused; 4 words; 5 a file could not be read; 7 memory.
+"""
 
 
 class Answered(Exception):
@@ -34,14 +35,6 @@ class Answered(Exception):
     def __init__(self, status, shown):
         super().__init__(status)
         self.status, self.shown = status, shown
-
-
-class Transition(NamedTuple):
-    """A transition's name, its first physical line and the one behind its last, counted from 0."""
-
-    name: str
-    first: int
-    behind: int
 
 
 class Texts(NamedTuple):
@@ -57,54 +50,6 @@ class Texts(NamedTuple):
 
     def only(self, names):
         return only(self.text, self.transitions, names)
-
-
-def logical_lines(text):
-    """The logical lines of a specification: the first physical line, the one behind the last, and the bytes without comments."""
-    first, nest, parts = None, 0, []
-    for number, row in enumerate(text.split(b"\n")):
-        row = row.partition(b"#")[0]
-        if first is None:
-            if not row.strip(BLANKS):
-                continue
-            first = number
-        parts.append(row)
-        for bracket in BRACKET.findall(row):
-            nest = nest + 1 if bracket in b"([" else max(nest - 1, 0)
-        if nest == 0:
-            yield first, number + 1, b"\n".join(parts)
-            first, parts = None, []
-    if first is not None:
-        yield first, number + 1, b"\n".join(parts)
-
-
-def is_transition(name):
-    """Whether a function of this name is one; the names of all other functions are kept for them."""
-    return name != "equiv" and not name.startswith(("inv_", "prop_"))
-
-
-def transitions(text):
-    """The transitions of a specification's text, in their order."""
-    found, inside = [], False
-    for first, behind, line in logical_lines(text):
-        if line[0] in BLANKS:
-            if inside:
-                found[-1] = found[-1]._replace(behind=behind)
-            continue
-        named = DEF.match(line)
-        inside = bool(named) and is_transition(named[1].decode())
-        if inside:
-            found.append(Transition(named[1].decode(), first, behind))
-    return found
-
-
-def only(text, found, names):
-    """The text with the transitions of these names alone, and empty lines in place of all others."""
-    rows = text.split(b"\n")
-    for transition in found:
-        if transition.name not in names:
-            rows[transition.first:transition.behind] = [b""] * (transition.behind - transition.first)
-    return b"\n".join(rows)
 
 
 def copy(name, limit, place):

@@ -1,7 +1,7 @@
 """hkv --help, hkv help COMMAND: a page on standard output for the whole, and one for each command.
 
 What comes in: the words behind `--help`. What goes out: the page. The program's commands have theirs here; a command of the launcher has
-its line in the table of commands, and as its page the text that its module begins with.
+its line in the table of commands, and as its page what its module has as HELP, or the text that the module begins with.
 """
 import sys
 
@@ -120,4 +120,5 @@ def page(module, line):
 
     found = importlib.import_module(module)
     usage = getattr(found, "USAGE", "").removeprefix("usage: ")
-    return (f"{usage}\n\n" if usage else "") + (found.__doc__ or line).strip() + "\n"
+    text = getattr(found, "HELP", None) or found.__doc__ or line
+    return (f"{usage}\n\n" if usage else "") + text.strip() + "\n"

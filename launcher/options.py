@@ -20,6 +20,7 @@ HELP = ("--help", "-h")
 MOST_CONFLICTS = 1_000_000
 MOST_JOBS = 1_000
 REFUSED = 3
+REPORTED = (0, 1, 2, 7)
 PROGRAMS_OWN = (*OPTIONS, "lrat", "run", "bench")
 
 
@@ -59,9 +60,9 @@ def run(words):
         asked = parse(words)
         if asked is None:
             return shown(command)
+        tried(asked)
         if asked.is_plain():
             return answer(asked.fixed())
-        tried(asked)
         from launcher import calls
 
         return calls.run(asked)
@@ -110,6 +111,8 @@ def tried(asked):
     if len(asked.names) != NAMES[asked.command]:
         unknown = [name for name in asked.names if name.startswith("--")]
         raise Misused(f"{asked.command} has no option {unknown[0]}" if unknown else "another number of files")
+    if not all(map(is_text, asked.fixed())):
+        raise Misused("a word is not UTF-8")
     if not has_form(asked.fixed()):
         raise Misused(f"--conflicts takes a number from 1 to {MOST_CONFLICTS:,}")
     if not is_number(asked.value("--jobs") or "1", 1, MOST_JOBS):
@@ -155,6 +158,10 @@ def answer(words):
         from launcher import kinds
 
         kinds.tell(words)
+    elif words[0] == "verify" and status in REPORTED:
+        from launcher import unnamed
+
+        unnamed.tell(words[1], words[2])
     return status
 
 
