@@ -15,6 +15,7 @@ import shlex
 import shutil
 import signal
 import subprocess
+import time
 from typing import NamedTuple
 
 from launcher import output, program, timing
@@ -155,24 +156,26 @@ def end(child):
         child.wait(SECONDS_TO_END)
     except subprocess.TimeoutExpired:
         pass
-    for process in session(child.pid):
-        try:
-            os.kill(process, signal.SIGKILL)
-        except ProcessLookupError:
-            pass
+    late = time.monotonic() + SECONDS_TO_END
+    while (left := session(child.pid)) and time.monotonic() < late:  # a process that is ended may just have begun another one
+        for process in left:
+            try:
+                os.kill(process, signal.SIGKILL)
+            except ProcessLookupError:
+                pass
     child.wait()
 
 
 def session(number):
-    """The processes of a session."""
+    """The processes of a session that have not ended."""
     found = []
-    for name in os.listdir("/proc"):
+    for name in filter(str.isdigit, os.listdir("/proc")):
         try:
             with open(f"/proc/{name}/stat", "rb") as file:
-                fields = file.read().rpartition(b")")[2].split()
+                state, _, _, of, *_ = file.read().rpartition(b")")[2].split()
         except (OSError, ValueError):
             continue
-        if name.isdigit() and int(fields[3]) == number:
+        if int(of) == number and state not in (b"Z", b"X"):
             found.append(int(name))
     return found
 

@@ -205,7 +205,7 @@ class OfLostJobs(Folder):
         late = time.monotonic() + 5
         while any(map(is_running, begun)) and time.monotonic() < late:
             time.sleep(0.1)
-        self.assertGreater(len(begun), 6)
+        self.assertGreaterEqual(len(begun), 6)
         self.assertEqual([pid for pid in begun if is_running(pid)], [])
         self.assertEqual([name for name in os.listdir(self.folder) if name.startswith("hkv-")], [])
 
@@ -240,7 +240,7 @@ class OfHosts(Folder):
         )
 
     def test_two_hosts(self):
-        files = self.workload(10)
+        files = self.workload(5)
         one = plain(["verify", *files, "--cert", self.path("one")])
         many = self.over_hosts(["verify", "--hosts", "hosts", *files, "--cert", self.path("many")])
         self.same(one, many)
@@ -248,11 +248,11 @@ class OfHosts(Folder):
             self.assertTrue(first.read() == second.read(), "the certificates differ")
 
     def test_this_machine_among_them(self):
-        files = self.workload(6)
+        files = self.workload(4)
         self.same(plain(["verify", *files]), self.over_hosts(["verify", "--hosts", "hosts", "--jobs", "1", *files], ":\\n"))
 
     def test_a_host_that_is_not_there(self):
-        files = self.workload(6)
+        files = self.workload(4)
         gone = "2/ssh -o BatchMode=yes -o ConnectTimeout=1 root@10.77.1.9\\n"
         self.same(plain(["verify", *files]), self.over_hosts(["verify", "--hosts", "hosts", *files], gone))
 
