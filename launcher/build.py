@@ -6,6 +6,7 @@ file is hard-linked as soon as it appears. The link outlives that folder, and is
 output file appears beside the module. The kit's clang and linker then make a program of it: at -O0 for the first answer, and at -O2 in
 the background, which takes the first one's place.
 """
+import errno
 import os
 import stat
 import sys
@@ -25,6 +26,8 @@ COMPILE = (
 ).split()
 TARGET = "x86_64-unknown-linux-gnu"
 KEEP = 2
+# Python as it runs this, without what a machine adds to it.
+PYTHON = (sys.executable, "-IS")
 STEPS = {"read": "reading the sources", "compile": "compiling", "optimise": "compiling once more, optimised"}
 
 
@@ -34,6 +37,16 @@ class Unlike(Exception):
 
 def quick(now):
     """The words that run the quick program of these sources, which is built where it is not there."""
+    try:
+        return found_or_built(now)
+    except OSError as error:
+        if error.errno in (errno.ENOSPC, errno.EDQUOT):
+            raise work.full(MEGABYTES) from None
+        raise
+
+
+def found_or_built(now):
+    """The same; a full disk comes as the system tells it."""
     home = kept("quick", now.name)
     program = os.path.join(home, "hkv")
     if not os.access(program, os.X_OK):
@@ -44,7 +57,7 @@ def quick(now):
                     why = built(now, home)
         if why is not None:
             say(f"the program runs by 'rt try', which takes minutes for each call, since {why}")
-            return (sys.executable, os.path.join(TOP, "launcher", "slow.py"))
+            return (*PYTHON, os.path.join(TOP, "launcher", "slow.py"))
     optimise_behind(now.name)
     return (program,)
 
@@ -110,7 +123,7 @@ def read_module(room, step):
     os.mkdir(below)
     words = ["rt", "try", "--", "verify", "tick.ll", "tick.py"]
     try:
-        child = work.start(words, room, cwd=PROGRAM_CRATE, env={**os.environ, "TMPDIR": below})
+        child = work.Child(words, cwd=PROGRAM_CRATE, env={**os.environ, "TMPDIR": below})
     except FileNotFoundError:
         raise Fault(kit.NO_RT) from None
     with child:
@@ -149,13 +162,13 @@ def compiled(module, room, level, step):
     found = parts()
     made, program = os.path.join(room, "hkv.o"), os.path.join(room, "hkv")
     words = [found["clang"], f"--target={TARGET}", f"--sysroot={found['toolchain']}", *COMPILE, level, module, "-o", made]
-    finish(words, room, step)
+    finish(words, step)
     words = [found["link"], "--target", TARGET, "--toolchain", found["toolchain"], "-o", program, made, found["os"], found["libc"]]
-    finish(words, room, step)
+    finish(words, step)
     os.chmod(program, os.stat(program).st_mode | stat.S_IXUSR | stat.S_IXGRP | stat.S_IXOTH)
     with open(os.path.join(PROGRAM_CRATE, "stdout"), "rb") as file:
         wanted = file.read()
-    tried = work.start([program, "verify", "tick.ll", "tick.py"], room, cwd=os.path.join(PROGRAM_CRATE, "data"))
+    tried = work.Child([program, "verify", "tick.ll", "tick.py"], cwd=os.path.join(PROGRAM_CRATE, "data"))
     with tried:
         while tried.runs():
             step.tick()
@@ -164,9 +177,9 @@ def compiled(module, room, level, step):
     return program
 
 
-def finish(words, room, step):
+def finish(words, step):
     """Runs a tool of the kit to its end."""
-    child = work.start(words, room)
+    child = work.Child(words)
     with child:
         while child.runs():
             step.tick()
@@ -177,4 +190,4 @@ def finish(words, room, step):
 def optimise_behind(name):
     """Starts the optimised build in the background, where its module still waits and nobody is at it."""
     if os.path.exists(kept("quick", name, "module.bc")) and not locks.is_held("optimise"):
-        work.detach([sys.executable, os.path.join(TOP, "launcher", "optimise.py"), name], kept("optimise.log"))
+        work.detach([*PYTHON, os.path.join(TOP, "launcher", "optimise.py"), name], kept("optimise.log"))

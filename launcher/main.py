@@ -1,6 +1,4 @@
 """The first word decides: one of the launcher's own commands, each in a module of its own, or else the program answers."""
-import importlib
-
 from launcher.say import UNABLE, Fault, fault_of, say
 
 # A command, the module whose `run(words)` answers it and gives the exit status, and what --help says of it.
@@ -13,6 +11,7 @@ COMMANDS = {
     "-h": ("launcher.help", ""),
     "help": ("launcher.help", ""),
     "--version": ("launcher.version", "which program runs, of which commit, and the kit's line"),
+    "--program": ("launcher.which", "the words that run the program, for scripts"),
 }
 
 
@@ -20,6 +19,8 @@ def run(words):
     """Answers a call; returns its exit status, where the program has not taken this process over."""
     try:
         if words and words[0] in COMMANDS:
+            import importlib
+
             return importlib.import_module(COMMANDS[words[0]][0]).run(words[1:])
         from launcher import options
 

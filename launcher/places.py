@@ -4,6 +4,7 @@ import os
 TOP = os.path.dirname(os.path.dirname(os.path.realpath(__file__)))
 CRATES = os.path.join(TOP, "crates")
 PROGRAM_CRATE = os.path.join(CRATES, "hkv")
+BUILT = os.path.join(PROGRAM_CRATE, "out", "hkv")
 KEPT = os.path.join(TOP, ".hkv")
 
 

@@ -2,21 +2,31 @@
 
 Both are kept by the name of the sources that they were made from. The quick one is built at the first call.
 """
-import functools
 import os
 import sys
 
 from launcher import sources
-from launcher.places import kept
+from launcher.places import BUILT, kept
 from launcher.say import Fault, say
 
 
-@functools.cache
+_CHOSEN = []
+
+
 def chosen():
     """The words that run the program, and whether it is the proved one. Decided, and said, once a call."""
+    if not _CHOSEN:
+        _CHOSEN.append(choose())
+    return _CHOSEN[0]
+
+
+def choose():
+    """The same, decided now."""
     now = sources.current()
     proved = kept("proved", now.name, "hkv")
-    if is_runnable(proved):
+    if not is_runnable(proved):
+        proved = left_by_rt(now)
+    if proved:
         return (proved,), True
     if wants_proved():
         raise Fault(refusal())
@@ -54,6 +64,15 @@ def exec_program(words):
     sys.stdout.flush()
     sys.stderr.flush()
     os.execv(command[0], command)
+
+
+def left_by_rt(now):
+    """The proved program of these sources that a run of `rt` by hand left, which is kept then, or None."""
+    if not is_runnable(BUILT):
+        return None
+    from launcher import adopt
+
+    return adopt.adopted(now)
 
 
 def is_runnable(file):

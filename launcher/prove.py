@@ -3,17 +3,14 @@ command goes on where it was stopped. The program is kept under the name of the 
 """
 import json
 import os
-import shutil
 import time
 
-from launcher import estimate, kit, locks, program, sources, work
+from launcher import adopt, estimate, kit, locks, program, sources, work
 from launcher.places import CRATES, PROGRAM_CRATE, kept
 from launcher.say import Fault, say
 
 USAGE = "hkv prove"
 SECONDS_BETWEEN_LINES = 30
-SECONDS_TO_ADOPT = 60
-KEEP = 2
 LEAST_MEGABYTES = 3000
 ADVICE = """run this again once that is mended: what was proved is kept. Where a process was killed, end others that take memory
 first; where the disk is full, make room. Where a proof failed, compare 'rt version' with README.md, and the sources with git status"""
@@ -26,7 +23,7 @@ def run(words):
         raise Fault(kit.NO_RT)
     with locks.held("prove", "another call is proving; waiting for it"):
         now = sources.current()
-        if not program.is_runnable(kept("proved", now.name, "hkv")):
+        if not program.is_runnable(kept("proved", now.name, "hkv")) and not adopt.adopted(now):
             prove(now)
     say("the proved program of these sources is built, and answers each call from now on")
     return 0
@@ -34,39 +31,38 @@ def run(words):
 
 def prove(now):
     """Proves and builds the program of these sources."""
-    work.sweep("prove-")
     work.room(megabytes_left())
     say(f"proving and building: {estimate.cost()}. What they say is kept in {kept('prove.log')}")
-    with work.folder("prove-") as room:
+    with work.stoppable():
         progress = Progress()
         try:
             for name in progress.order:
                 if not progress.is_done(name):
-                    library(name, room, progress)
-            build(room, progress)
+                    library(name, progress)
+            build(progress)
         finally:
             progress.line.clear()
     keep(now)
 
 
-def library(name, room, progress):
+def library(name, progress):
     """Proves one library over those below it."""
     progress.begin(name)
-    log = followed(["rt", "lib"], os.path.join(CRATES, name), room, progress, name)
+    log = followed(["rt", "lib"], os.path.join(CRATES, name), progress, name)
     if not os.path.exists(stamp(name)):
         raise Fault(f"{name} was not proved, and 'rt lib' does not say why: {log}")
     progress.end(name)
 
 
-def build(room, progress):
+def build(progress):
     """Proves and builds the program itself, by a run of it, which says its usage."""
     progress.begin("hkv")
-    followed(["rt", "run", "--"], PROGRAM_CRATE, room, progress, "hkv", lambda said: b"\nrt: running " in b"\n" + said)
+    followed(["rt", "run", "--"], PROGRAM_CRATE, progress, "hkv", lambda said: b"\nrt: running " in b"\n" + said)
 
 
-def followed(words, folder, room, progress, name, is_well=None):
+def followed(words, folder, progress, name, is_well=None):
     """Runs a command of the kit to its end, and says on which crate it is; what it said goes to the log."""
-    child = work.start(words, room, cwd=folder)
+    child = work.Child(words, cwd=folder)
     with child:
         while child.runs():
             progress.tick()
@@ -88,11 +84,7 @@ def keep(now):
     """Keeps the program that was built, where the sources are still those of the beginning."""
     if sources.current() != now:
         raise Fault("the sources changed while they were proved: run this again, which proves what changed")
-    os.makedirs(kept("proved", now.name), exist_ok=True)
-    part = kept("proved", now.name, f"hkv.{os.getpid()}")
-    shutil.copy2(os.path.join(PROGRAM_CRATE, "out", "hkv"), part)
-    os.replace(part, kept("proved", now.name, "hkv"))
-    work.drop_old(kept("proved"), now.name, KEEP)
+    adopt.keep(now)
 
 
 def megabytes_left():
@@ -144,12 +136,18 @@ class Progress:
     def end(self, name):
         self.left.discard(name)
         self.spent += time.monotonic() - self.began
-        self.foreseen += self.expected.get(name, 0)
+        self.foreseen += self.foreseen_for(name)
         self.kept[name] = self.sums[name]
         part = kept(f"libraries.{os.getpid()}")
         with open(part, "w", encoding="utf-8") as file:
             json.dump(self.kept, file)
         os.replace(part, kept("libraries.json"))
+
+    def foreseen_for(self, name):
+        """The seconds that a crate took when it was measured; for one that was not, the mean of those that were."""
+        if name in self.expected or not self.expected:
+            return self.expected.get(name, 0)
+        return sum(self.expected.values()) / len(self.expected)
 
     def told(self):
         return f"proving {self.name}: {len(self.left)} of {len(self.sums)} crates left{self.minutes()}"
@@ -159,8 +157,8 @@ class Progress:
         if not self.expected:
             return ""
         pace = self.spent / self.foreseen if self.foreseen > 60 else 1
-        here = self.expected.get(self.name, 0)
-        others = sum(self.expected.get(it, 0) for it in self.left if it != self.name)
+        here = self.foreseen_for(self.name)
+        others = sum(self.foreseen_for(it) for it in self.left if it != self.name)
         seconds = (others + max(here - (time.monotonic() - self.began) / pace, 0)) * pace
         return f", about {max(round(seconds / 60), 1)} min"
 

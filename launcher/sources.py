@@ -2,10 +2,10 @@
 
 What comes in: the folders src and specs of crates/hkv and of each crate below it, with these crates' lines of crates.txt. Proof files
 are left out: they change neither the program nor what is claimed of it. What goes out: `Sources`, whose name is the same whenever
-the content is. A call takes one look at each file's size and time; the content is read only where one of these has changed.
+the content is. A call takes one look at each file's size and time of change; the content is read only where one of these has changed.
+That time is the one which the system sets at every change, and which no copying tool can set back.
 """
 import os
-from typing import NamedTuple
 
 from launcher import kit
 from launcher.places import CRATES, TOP, kept
@@ -16,12 +16,14 @@ PROVED_PARTS = (*PARTS, "proofs")
 TRIES = 5
 
 
-class Sources(NamedTuple):
-    """The sum of the sources' content, the kit's line, and the sum of both."""
+class Sources:
+    """The sum of the sources' content, the kit's line, and their name, which is a sum of both."""
 
-    sum: str
-    kit: str
-    name: str
+    def __init__(self, sum, kit, name):
+        self.sum, self.kit, self.name = sum, kit, name
+
+    def __eq__(self, other):
+        return self.name == other.name
 
 
 def listed():
@@ -52,7 +54,7 @@ def crates():
 
 
 def files(names, parts=PARTS):
-    """Path, size and time of each source file of these crates."""
+    """Path, size and time of change of each source file of these crates."""
     found = []
     todo = [os.path.join(CRATES, name, part) for name in names for part in parts]
     while todo:
@@ -64,7 +66,7 @@ def files(names, parts=PARTS):
                         todo.append(entry.path)
                     elif entry.name.endswith((".rt", ".antt")):
                         seen = entry.stat()
-                        found.append((entry.path, seen.st_size, seen.st_mtime_ns))
+                        found.append((entry.path, seen.st_size, seen.st_ctime_ns))
         except FileNotFoundError:
             pass
     return sorted(found)
@@ -130,7 +132,7 @@ def remember(text, made):
         os.makedirs(kept(), exist_ok=True)
         part = kept(f"sources.{os.getpid()}")
         with open(part, "w", encoding="utf-8") as file:
-            file.write("\n".join((*made, text)))
+            file.write("\n".join((made.sum, made.kit, made.name, text)))
         os.replace(part, kept("sources"))
     except OSError:
         pass
