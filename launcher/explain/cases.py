@@ -6,7 +6,7 @@ the specification gives is as shown, is asked of the program (ask.py, facts.py).
 from launcher import reasons
 from launcher.explain import facts, falsity, shrink, steps
 from launcher.explain.evaluate import State, abstraction, named, transition
-from launcher.explain.memory import Memory, begins_in
+from launcher.explain.memory import Memory, begins_in, typed
 from launcher.explain.paths import Paths, shown
 from launcher.kernel_debug import CType
 
@@ -229,7 +229,7 @@ def invariant(subject, name, before, after):
     if part is None:
         return None
     text = falsity.grounded(evaluator, part.node, part.at)
-    confirmed = facts.is_false_in_memory(subject.ask, subject.spec, function, text, begins_in(subject.kernel, after))
+    confirmed = facts.is_false_in_memory(subject.ask, subject.spec, function, text, typed(subject.kernel, after))
     return told(subject, function, part, confirmed, c_names(subject, evaluator, part, before))
 
 

@@ -54,6 +54,37 @@ def begins_in(kernel, memory):
     return '\n'.join(lines)
 
 
+def typed(kernel, memory):
+    """The same with initial values of the globals' own types, so that paths of a specification go through them; bytes of
+    padding are 0."""
+    lines = list(kernel.lines)
+    for over in kernel.mutable:
+        value = initialiser(kernel, over.type, memory.bytes[over.name])
+        lines[over.line - 1] = f'@{spelled(over.name)} = global {over.type} {value}, align {over.align or 1}'
+        for later in range(over.line, over.last):
+            lines[later] = ''
+    return '\n'.join(lines)
+
+
+def initialiser(kernel, over, content):
+    """The initial value of a type that has these bytes."""
+    over = kernel.whole(over)
+    if not any(content):
+        return 'zeroinitializer'
+    if over.kind == 'int':
+        return str(int.from_bytes(content, 'little'))
+    if over.kind == 'array':
+        size = kernel.size_of(over.parts[0])
+        places = [k * size for k in range(over.number)]
+    else:
+        places = kernel.offsets(over)[0]
+    parts = over.parts * over.number if over.kind == 'array' else over.parts
+    told = ', '.join(f'{part} {initialiser(kernel, part, content[at:at + kernel.size_of(part)])}'
+                     for part, at in zip(parts, places))
+    left, right = {'array': '[]', 'struct': '{}', 'packed': ('<{', '}>')}[over.kind]
+    return f'{left} {told} {right}'
+
+
 def spelled(name):
     """A name as a kernel's text has it."""
     return name if re.fullmatch(r'[-\w.$]+', name, re.A) else quote(name)

@@ -42,7 +42,7 @@ def rejection(one):
     out += state(one, case)
     if one['run']:
         out += stuck(one['run']) if one['run']['ends'] == 'stuck' else returned(one)
-    out += transition(one) + difference(one) + falsity(one['false'], 'behind the transition' if not one['run'] else 'behind the run')
+    out += transition(one) + difference(one) + falsity(one['false'], 'after the transition' if not one['run'] else 'after the run')
     return out
 
 
