@@ -4,7 +4,7 @@ In come the kernel, the specification and a verdict; what a run does, whether a 
 the specification gives is as shown, is asked of the program (ask.py, facts.py).
 """
 from launcher import reasons
-from launcher.explain import facts, falsity, shrink, steps
+from launcher.explain import facts, falsity, marks, shrink, steps
 from launcher.explain.evaluate import State, abstraction, named, transition
 from launcher.explain.memory import Memory, begins_in, typed
 from launcher.explain.paths import Paths, shown
@@ -122,6 +122,7 @@ def explain(subject, verdict):
              'source': sources(subject, verdict.handler)}
     tell = of_state if case.state is not None else of_run
     found.update(tell(subject, verdict, case))
+    found['mark'] = marks.mark(subject, found, verdict)
     return found
 
 
@@ -211,14 +212,21 @@ def differing(subject, name, behind, outcome):
     field = subject.spec.field(name)
     return {'kind': 'state', 'name': name,
             'entries': [{'path': named(field.name, keys), 'keys': list(keys), 'run': run, 'transition': gives,
+                         'c': c_of_entry(subject, field, keys),
                          'shown': [shown(run, field.sort.width), shown(gives, field.sort.width)]}
                         for _, keys, run, gives in behind.differences(outcome.state, field)]}
+
+
+def c_of_entry(subject, field, keys):
+    """The path of an entry in memory, where its equation is a plain path."""
+    leaf = marks.leaf_of_entry(subject, field, keys)
+    return leaf.path if leaf else None
 
 
 def results(subject, verdict, value, outcome):
     width = subject.kernel.functions[verdict.handler].result.number
     return {'kind': 'result', 'name': '', 'entries': [{
-        'path': 'result', 'keys': [], 'run': value, 'transition': outcome.result,
+        'path': 'result', 'keys': [], 'c': None, 'run': value, 'transition': outcome.result,
         'shown': [shown(value, width, signed_type(width)), result_words(outcome, width)]}]}
 
 

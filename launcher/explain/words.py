@@ -138,7 +138,8 @@ def difference(one):
         return []
     out = []
     for entry in told['entries'][:MOST]:
-        out.append(f'  {entry["path"]}: the run gives {entry["shown"][0]}, the transition {entry["shown"][1]}')
+        c = f' ({entry["c"]})' if entry['c'] else ''
+        out.append(f'  {entry["path"]}{c}: the run gives {entry["shown"][0]}, the transition {entry["shown"][1]}')
     return out + [f'  .. and {len(told["entries"]) - MOST} more'] * (len(told['entries']) > MOST)
 
 
