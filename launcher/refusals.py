@@ -25,50 +25,47 @@ def run(words, names=None):
     return status
 
 
+class Ending:
+    """Ends the child where this process is interrupted, and has the signals that would end this process raised for that."""
+
+    def __init__(self, child):
+        self.child = child
+
+    def __enter__(self):
+        for number in (signal.SIGTERM, signal.SIGHUP):
+            if signal.getsignal(number) == signal.SIG_DFL:
+                signal.signal(number, lambda number, _: sys.exit(128 + number))
+        return self.child
+
+    def __exit__(self, kind, *_):
+        if kind is not None:
+            self.child.terminate()
+            self.child.wait()
+
+
 def spawn(words, **how):
-    """The program as a child, to which an end by a signal is handed on."""
-    child = subprocess.Popen([*program.argv(), *words], **how)
-
-    def hand_on(number, _):
-        if child.poll() is None:
-            child.send_signal(number)
-
-    for number in (signal.SIGTERM, signal.SIGHUP):
-        signal.signal(number, hand_on)
-    return child
+    """The program as a child."""
+    return Ending(subprocess.Popen([*program.argv(), *words], **how))
 
 
 def status_of(child):
     """The status of a child that ended; one that a signal ended has 128 and the signal's number, as in a shell."""
-    while True:
-        try:
-            status = child.wait()
-            return status if status >= 0 else 128 - status
-        except KeyboardInterrupt:
-            continue
+    status = child.wait()
+    return status if status >= 0 else 128 - status
 
 
 def run_through(words):
     """The status, and the first bytes of what went through."""
-    child = spawn(words, stdout=subprocess.PIPE)
-    shown, source, written = b'', child.stdout.fileno(), True
-    while True:
-        try:
-            piece = os.read(source, 1 << 16)
-        except KeyboardInterrupt:
-            continue
-        if not piece:
-            break
-        shown = (shown + piece)[:KEEP] if len(shown) < KEEP else shown
-        if not put(piece):
-            written = False
+    with spawn(words, stdout=subprocess.PIPE) as child:
+        shown, source, written = b'', child.stdout.fileno(), True
+        while written and (piece := os.read(source, 1 << 16)):
+            shown = (shown + piece)[:KEEP] if len(shown) < KEEP else shown
+            written = put(piece)
+        if not written:
             child.kill()
-            break
-    child.stdout.close()
-    status = status_of(child)
-    if written:
-        return status, shown
-    return after_write_fault(status, shown), shown
+        child.stdout.close()
+        status = status_of(child)
+    return (status if written else after_write_fault(shown)), shown
 
 
 def put(piece):
@@ -81,17 +78,18 @@ def put(piece):
         return False
 
 
-def after_write_fault(status, shown):
+def after_write_fault(shown):
     """The status where standard output failed: a line of a fault keeps its own, all else has the program's write fault."""
     found = fault_of(shown)
     kept = {'usage': 4, 'read fault': 5, 'memory': 7, 'long': 3, 'text': 3, 'call': 3}
-    return kept.get(found[0], WRITE_FAULT) if found else WRITE_FAULT
+    return kept[found[0]] if found else WRITE_FAULT
 
 
 def run_beside(words, names):
     """A call that saves a certificate writes by itself, so that nothing is saved where its output fails. Where it is refused,
     the same call without a certificate says why."""
-    status = status_of(spawn(words))
+    with spawn(words) as child:
+        status = status_of(child)
     at = words.index('--cert')
     again = words[:at] + words[at + 2:]
     if status in (3, 4, 5) and all(os.path.isfile(word) or not os.path.exists(word) for word in words[1:3]):
