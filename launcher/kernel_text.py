@@ -100,6 +100,7 @@ class Global:
     align: int
     place: int
     head: str = ''
+    last: int = 0
 
     @property
     def metadata(self):
@@ -148,7 +149,7 @@ def count_brackets(text, open_marks):
 
 
 def items(text):
-    """The items of a text: pairs of the first line, counted from 1, and the text with its lines joined."""
+    """The items of a text: the first and the last line, counted from 1, and the text with its lines joined."""
     first, parts, open_marks = 0, [], ''
     for number, line in enumerate(text.split('\n'), 1):
         line = without_comment(line).strip()
@@ -158,10 +159,10 @@ def items(text):
         parts.append(line)
         open_marks = count_brackets(line, open_marks)
         if not open_marks or (parts[0].startswith('define') and open_marks == '{'):
-            yield first, ' '.join(parts)
+            yield first, number, ' '.join(parts)
             parts, open_marks = [], ''
     if parts:
-        yield first, ' '.join(parts)
+        yield first, text.count('\n') + 1, ' '.join(parts)
 
 
 def split_commas(text):
@@ -269,14 +270,14 @@ class Kernel:
 
     def _read(self):
         function, number = None, 0
-        for line, text in items(self.text):
+        for line, last, text in items(self.text):
             if function is not None:
                 function = self._read_inner(function, number, line, text)
             elif text.startswith('define'):
                 function, number = read_head(line, text)
                 self._keep(function)
             else:
-                self._read_top(line, text)
+                self._read_top(line, last, text)
 
     def _keep(self, function):
         if function is not None:
@@ -296,9 +297,9 @@ class Kernel:
         function.blocks[-1].instrs.append(read_instr(line, text))
         return function
 
-    def _read_top(self, line, text):
+    def _read_top(self, line, last, text):
         if text.startswith('@'):
-            self._read_global(line, text)
+            self._read_global(line, last, text)
         elif text.startswith('declare'):
             function, _ = read_head(line, text)
             if function:
@@ -311,7 +312,7 @@ class Kernel:
         elif layout := re.match(r'target datalayout = "([^"]*)"', text):
             self.layout_text = layout[1]
 
-    def _read_global(self, line, text):
+    def _read_global(self, line, last, text):
         found = GLOBAL.match(text)
         if not found:
             return
@@ -319,7 +320,7 @@ class Kernel:
         parts = split_commas(text[at:])
         align = next((int(part[6:]) for part in parts[1:] if re.fullmatch(r'align \d+', part)), 0)
         self.globals.append(Global(unquote(found[1]), line, found[2] == 'constant', over, parts[0] if parts else '',
-                                   align or self.align_of(over), len(self.globals), text))
+                                   align or self.align_of(over), len(self.globals), text, last))
 
     # Layout
 

@@ -1,0 +1,112 @@
+"""`hkv explain KERNEL SPEC [REPORT] [--json] [--html FILE]`: each rejection in the words of the source.
+
+In come the texts and a report of `verify` (without one, the program is asked for it), out go words, the same as JSON, or a page.
+Nothing that is shown so is claimed: what a run does, and whether a case violates its obligation, is asked of `hkv` itself.
+"""
+import json
+import sys
+import time
+
+from launcher import kernel_text, program, spec_text
+
+USAGE = 'hkv explain KERNEL SPEC [REPORT] [--json] [--html FILE]'
+
+
+class Options:
+    """The words of a call; files is empty where they have no form."""
+
+    def __init__(self, words):
+        self.files, self.json, self.html = [], False, None
+        words = list(words)
+        while words:
+            word = words.pop(0)
+            if word == '--json':
+                self.json = True
+            elif word == '--html' and words:
+                self.html = words.pop(0)
+            elif word.startswith('--'):
+                self.files = []
+                return
+            else:
+                self.files.append(word)
+
+
+def run(words):
+    options = Options(words)
+    if len(options.files) not in (2, 3):
+        print(f'usage: {USAGE}', file=sys.stderr)
+        return 4
+    found, status = explained(*options.files)
+    if found is None:
+        return status
+    return show(found, options, status)
+
+
+def show(found, options, status):
+    from launcher.explain import page, words
+    if options.html:
+        with open(options.html, 'w', encoding='utf-8') as file:
+            file.write(page.html(found))
+    if options.json:
+        print(json.dumps(found, indent=1, ensure_ascii=False))
+    elif not options.html:
+        print('\n'.join(words.lines(found)))
+    return status
+
+
+def explained(kernel_path, spec_path, report_path=None):
+    """The dictionary of a report, and the status of its verdicts; none where there is no report."""
+    text, times, status = read_report(report_path) if report_path else verified(kernel_path, spec_path)
+    if text is None:
+        return None, status
+    from launcher.explain import ask, cases, report
+    found = report.read(text)
+    if not found.opening:
+        print('hkv: there is no report of `hkv verify` here' + (f': {report_path}' if report_path else ''), file=sys.stderr)
+        return None, 4
+    kernel, spec = kernel_text.load(kernel_path), spec_text.load(spec_path)
+    with ask.Ask(spec) as asked:
+        subject = cases.Subject(kernel, spec, asked)
+        rejections = [cases.explain(subject, one) for one in found.rejections]
+        opening = cases.opening(subject, found.opening)
+        calls = asked.calls
+    verdicts = [{'verdict': one.kind, 'handler': one.handler, 'obligation': one.obligation, 'seconds': times.get(one.handler)}
+                for one in found.verdicts]
+    return {'kernel': kernel_path, 'specification': spec_path, 'opening': opening, 'verdicts': verdicts,
+            'rejections': rejections, 'asked': calls, 'proved': program.is_proved()}, status
+
+
+def read_report(path):
+    """A report's text, no times, and the status that it comes to."""
+    with open(path, encoding='utf-8', errors='surrogateescape') as file:
+        text = file.read()
+    lines = text.splitlines()
+    failed = any(line.startswith(('reject ', 'init fails ')) for line in lines)
+    unknown = any(line.startswith('unknown ') for line in lines)
+    return text, {}, 1 if failed else 2 if unknown else 0
+
+
+def verified(kernel_path, spec_path):
+    """The report of a call of `verify`, with the seconds until each handler's line came, and the status. A refusal is said in
+    words, as by `verify` itself, and then there is no report."""
+    import subprocess
+    child = subprocess.Popen([*program.argv(), 'verify', kernel_path, spec_path], stdout=subprocess.PIPE, bufsize=0)
+    lines, times, before = [], {}, time.monotonic()
+    for line in child.stdout:
+        now = time.monotonic()
+        line = line.decode(errors='surrogateescape')
+        lines.append(line)
+        words = line.split()
+        if words and not line.startswith(' ') and words[0] in ('accept', 'reject', 'unknown', 'memory'):
+            times[words[1]], before = round(now - before, 3), now
+        elif line.startswith('init '):
+            before = now
+    status = child.wait()
+    text = ''.join(lines)
+    if not text.startswith('init '):
+        from launcher import refusals
+        sys.stdout.write(text)
+        sys.stdout.flush()
+        refusals.speak(['verify', kernel_path, spec_path], status, text.encode(errors='surrogateescape'), {})
+        return None, {}, status
+    return text, times, status
