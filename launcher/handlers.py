@@ -118,10 +118,11 @@ def run(words):
 
 
 def told(command, words, answered):
-    """Shows the program's answer to texts that it does not read; its status."""
-    from launcher import kinds, output
+    """Shows the program's answer to texts that it does not read, with its words; its status."""
+    from launcher import kinds, output, refusals
 
     output.put(answered.shown)
+    refusals.speak(["verify", *words], answered.status, answered.shown, {})
     if answered.status == 3:
         kinds.tell([command, *words])
     return answered.status

@@ -153,7 +153,9 @@ def answer(words):
     """The program's answer to words of its own, with a hint where they have no form; the exit status."""
     if not has_form(words):
         return misused(words[0] if words else "", "")
-    status = program.run(words).returncode
+    from launcher import refusals
+
+    status = refusals.run(words)
     if status == REFUSED:
         from launcher import kinds
 
