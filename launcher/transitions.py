@@ -68,3 +68,19 @@ def only(text, found, names):
         if transition.name not in names:
             rows[transition.first:transition.behind] = [b""] * (transition.behind - transition.first)
     return b"\n".join(rows)
+
+
+def main():
+    """transitions.py SPEC HANDLER ..: the specification with these handlers alone, on standard output."""
+    import sys
+
+    if len(sys.argv) < 3:
+        print("usage: transitions.py SPEC HANDLER ..", file=sys.stderr)
+        sys.exit(4)
+    with open(sys.argv[1], "rb") as file:
+        text = file.read()
+    sys.stdout.buffer.write(only(text, transitions(text), sys.argv[2:]))
+
+
+if __name__ == "__main__":
+    main()

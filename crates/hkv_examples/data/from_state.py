@@ -77,6 +77,9 @@ def from_state(kernel, rows):
 
 
 def main():
+    if len(sys.argv) != 5:
+        print('usage: from_state.py KERNEL REPORT HANDLER OUT', file=sys.stderr)
+        sys.exit(4)
     kernel, report, handler, out = sys.argv[1:]
     with open(report) as file:
         args, rows = read_rejection(file.read(), handler)
