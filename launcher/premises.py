@@ -69,7 +69,7 @@ def listed(kernel, spec, names):
     """The lines of the list."""
     text = kernel.decode(errors="surrogateescape").encode(errors="replace").decode()
     module = kernel_text.Kernel(text)
-    items = [Item(line, item, TOKEN.findall(item)) for line, item in kernel_text.items(text)]
+    items = [Item(line, item, TOKEN.findall(item)) for line, _, item in kernel_text.items(text)]
     hooks = spec_text.Spec(spec.decode(errors="replace")).hooks
     return [
         *of_functions(module, unnamed.functions(kernel, names), names),
@@ -154,7 +154,8 @@ def linkage(item):
 def defined_name(item):
     """The name that an item outside of bodies defines, or None."""
     if item.tokens[0] == "define" or (item.tokens[0].startswith("@") and item.tokens[1:2] == ["="]):
-        return next(token for token in item.tokens if token.startswith("@"))
+        token = next(token for token in item.tokens if token.startswith("@"))
+        return "@" + kernel_text.quote(kernel_text.unquote(token[1:]))
     return None
 
 

@@ -5,7 +5,7 @@ called where its name stands before a parenthesis anywhere but at its own `defin
 """
 import re
 
-ASIDE = re.compile(rb'(c?"[^"\n]*")|;[^\n]*')
+ASIDE = re.compile(rb'(@"[^"\n]*")|"[^"\n]*"|;.*')
 NAMED = re.compile(rb'@("[^"\n]*"|[-\w.$]+)[ \t\r]*\(')
 ESCAPE = re.compile(rb"\\(\\|[0-9A-Fa-f]{2})")
 
