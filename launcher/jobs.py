@@ -26,6 +26,7 @@ ANSWERS = {0: 0, 2: 1, 7: 2, 1: 3}  # the statuses of a report, each with its ra
 HEADER, END = b"hkv certificate 1\n", b"end\n"
 PARTS = ("out", "err", "cert")
 SECONDS_TO_END = 5
+SECONDS_TO_CLEAR = 30
 RETRIES = 3  # of a job whose host was lost
 
 SCRIPT = """\
@@ -82,6 +83,7 @@ def prepare(asked, texts, wanted, folder, away):
         with open(os.path.join(folder, f"{place}.py"), "wb") as file:
             file.write(texts.only(wanted[place - 1:place] if place else []))
     words = program.argv()
+    words[0] = os.path.abspath(words[0]) if os.sep in words[0] else words[0]  # a job runs in the folder
     if away:
         if len(words) != 1:
             raise Fault("the program is not one file that can be brought to hosts")
@@ -184,7 +186,7 @@ def clear(hosts, folder):
     """Takes away what a call that was interrupted leaves on its hosts."""
     words = [gnu_parallel(), "--plain", "--nonall", "--sshloginfile", os.path.abspath(hosts), "rm", "-rf", os.path.basename(folder)]
     try:
-        subprocess.run(words, cwd=os.path.dirname(folder), stdin=subprocess.DEVNULL, capture_output=True, timeout=2 * SECONDS_TO_END)
+        subprocess.run(words, cwd=os.path.dirname(folder), stdin=subprocess.DEVNULL, capture_output=True, timeout=SECONDS_TO_CLEAR)
     except subprocess.TimeoutExpired:
         say(f"the folder {os.path.basename(folder)} may be left in the home of a host")
 
