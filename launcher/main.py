@@ -3,6 +3,7 @@ from launcher.say import UNABLE, Fault, fault_of, say
 
 # A command, the module whose `run(words)` answers it and gives the exit status, and what --help says of it.
 COMMANDS = {
+    "explain": ("launcher.explain", "say each rejection in the words of the source, as text, JSON or a page"),
     "prove": ("launcher.prove", "prove everything, and build the program that everything is claimed of"),
     "selftest": ("launcher.selftest", "run every example and stored call of the repository, and compare"),
     "--version": ("launcher.version", "which program runs, of which commit, and the kit's line"),
@@ -16,9 +17,9 @@ def run(words):
             import importlib
 
             return importlib.import_module(COMMANDS[words[0]][0]).run(words[1:])
-        from launcher import program
+        from launcher import refusals
 
-        return program.exec_program(words)
+        return refusals.run(words)
     except Fault as fault:
         return unable(fault)
     except OSError as error:

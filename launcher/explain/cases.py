@@ -173,11 +173,12 @@ def returned(subject, verdict, case, value, after):
     function = subject.kernel.functions[verdict.handler]
     ctype = subject.kernel.debug.result(function)
     width = function.result.number
-    return {'ends': 'returns', 'value': value, 'shown': shown(value, width, ctype or signed_type(width)) if value is not None else None,
+    walked, _ = steps.of_run(subject, verdict.handler, case, None)
+    return {'ends': 'returns', 'value': value, 'left': steps.left_at(walked), 'shown': shown(value, width, ctype or signed_type(width)) if value is not None else None,
             'changes': [{'path': leaf.path, 'before': was, 'after': now, 'shown': [leaf.shown(was), leaf.shown(now)]}
                         for leaf, was, now in subject.paths.changed(case.memory, after)],
             'after': [place(leaf, value) for leaf, value in subject.paths.nonzero(after)],
-            'steps': steps.of_run(subject, verdict.handler, case, None)[0]}
+            'steps': walked}
 
 
 def signed_type(width):

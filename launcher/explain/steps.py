@@ -49,15 +49,21 @@ def grouped(subject, walk, walked):
         key = (place.file, place.line) if place else None
         told = told_of(subject, walk, step)
         if found and (key is None or found[-1]['key'] in (key, None)) and subject.kernel.debug.is_there:
+            found[-1]['last'] = step.instr.line
             found[-1]['key'] = found[-1]['key'] or key
             extend(found[-1], told, place, subject)
-        elif told['text'] or key:
-            found.append({'key': key, 'place': place_values(subject.kernel, place), 'line': step.instr.line,
+        elif told['text'] or key or step is walked[-1]:
+            found.append({'key': key, 'last': step.instr.line, 'place': place_values(subject.kernel, place), 'line': step.instr.line,
                           'instruction': step.instr.text.split(', !')[0], 'tells': []})
             extend(found[-1], told, place, subject)
     for one in found:
         del one['key']
     return [one for one in found if one['tells'] or one is found[-1]]
+
+
+def left_at(walked):
+    """Where a run leaves the handler."""
+    return {'line': walked[-1]['last'], 'place': walked[-1]['place']} if walked else None
 
 
 def extend(group, told, place, subject):
