@@ -7,7 +7,7 @@ from launcher import reasons
 from launcher.explain import facts, falsity, marks, shrink, steps
 from launcher.explain.evaluate import State, abstraction, named, transition
 from launcher.explain.memory import Memory, begins_in, typed
-from launcher.explain.paths import Paths, shown
+from launcher.explain.paths import Paths, place_of, shown
 from launcher.kernel_debug import CType
 
 MEANS = {
@@ -25,7 +25,7 @@ class Subject:
 
     def __init__(self, kernel, spec, ask):
         self.kernel, self.spec, self.ask = kernel, spec, ask
-        self.paths, self.spec_paths = Paths(kernel), {}
+        self.paths = Paths(kernel)
         self.handlers = [one.name for one in spec.transitions]
 
     def still_violates(self, verdict, block):
@@ -248,21 +248,13 @@ def c_names(subject, evaluator, part, before):
     for text, value, width in part.reads:
         found.append({'path': text, 'value': value, 'shown': shown(value, width if isinstance(width, int) else 1),
                       'c': None, 'before': None})
-    leaves = {leaf_path(subject, leaf): leaf for over in subject.kernel.mutable for leaf in subject.paths.leaves(over)}
     for one in found:
-        leaf = leaves.get(one['path'])
-        if leaf:
+        place_ = place_of(subject.kernel, one['path'])
+        leaf = subject.paths.at(*place_) if place_ else None
+        if leaf and leaf.offset == place_[1]:
             one['before'] = leaf.of(before)
             one['c'] = leaf.path if 'kernel.' + leaf.path != one['path'] else None
     return found
-
-
-def leaf_path(subject, leaf):
-    """The path of a leaf as a specification writes it."""
-    over = subject.kernel.global_named(leaf.name)
-    if leaf.name not in subject.spec_paths:
-        subject.spec_paths[leaf.name] = {offset: path for path, offset, _ in subject.kernel.leaves(over.type)}
-    return f'kernel.{leaf.name}{subject.spec_paths[leaf.name].get(leaf.offset, "")}'
 
 
 def told(subject, function, part, confirmed, reads):
