@@ -8,6 +8,7 @@ import sys
 import time
 
 from launcher import kernel_text, program, spec_text
+from launcher.say import Fault
 
 USAGE = 'hkv explain KERNEL SPEC [REPORT] [--json] [--html FILE]'
 
@@ -64,7 +65,11 @@ def explained(kernel_path, spec_path, report_path=None):
     if not found.opening:
         print('hkv: there is no report of `hkv verify` here' + (f': {report_path}' if report_path else ''), file=sys.stderr)
         return None, 4
-    kernel, spec = kernel_text.load(kernel_path), spec_text.load(spec_path)
+    kernel, spec = loaded(kernel_path, spec_path)
+    others = [one.handler for one in found.rejections if not spec.transition(one.handler) or one.handler not in kernel.functions]
+    if others:
+        print(f'hkv: the report is of other texts: it rejects {others[0]}', file=sys.stderr)
+        return None, 4
     with ask.Ask(spec) as asked:
         subject = cases.Subject(kernel, spec, asked)
         rejections = [cases.explain(subject, one) for one in found.rejections]
@@ -74,6 +79,14 @@ def explained(kernel_path, spec_path, report_path=None):
                 for one in found.verdicts]
     return {'kernel': kernel_path, 'specification': spec_path, 'opening': opening, 'verdicts': verdicts,
             'rejections': rejections, 'asked': calls, 'proved': program.is_proved()}, status
+
+
+def loaded(kernel_path, spec_path):
+    """Both texts by their parts."""
+    try:
+        return kernel_text.load(kernel_path), spec_text.load(spec_path)
+    except (SyntaxError, ValueError, RecursionError) as error:
+        raise Fault(f'{spec_path}: this specification cannot be shown here, since Python does not read it: {error}') from error
 
 
 def read_report(path):

@@ -170,7 +170,7 @@ def transition(one):
     given = one['transition']
     if not given:
         return ''
-    differing = {entry['path']: entry for entry in (one['difference'] or {}).get('entries', ())}
+    differing = {entry['path']: entry for entry in given.get('run', ())}
     changes = {change['path']: change['shown'] for change in given['changes']}
     end = {entry['path']: entry['shown'] for entry in given['end']}
     paths = list(end) + [path for path in [*changes, *differing] if path not in end]
