@@ -1,15 +1,14 @@
 #!/bin/sh
 # examples.sh [SECONDS]: measures each handler of examples/files.c at three sizes, and the one whose budget is spent: user
 # time, elapsed time and peak of memory of each run. A run that takes more user time than SECONDS, 60 where none is
-# given, is ended. It needs clang-16. HKV names the program; without it, it is the one that the launcher builds.
+# given, is ended. It needs clang-16. HKV names the program; without it, it is the proved one, which `./hkv prove` builds.
 set -eu
 root=$(cd "$(dirname "$0")/.." && pwd)
 seconds=${1:-60}
 work=$(mktemp -d)
 trap 'rm -rf "$work"' EXIT
 if [ -z "${HKV:-}" ]; then
-  "$root/hkv" >/dev/null || true
-  HKV=$root/crates/hkv/out/hkv
+  HKV=$(HKV_PROVED=1 "$root/hkv" --program)
 fi
 
 run() { # run TITLE KERNEL SPEC
@@ -32,7 +31,7 @@ for size in '8 16' '16 32' '64 128'; do
   # shellcheck disable=SC2086 # two numbers
   "$root/examples/sized.sh" $size "$work/sized"
   for handler in create exit switch open close dup transfer set_limit get_limit; do
-    python3 "$root/examples/only.py" "$work/sized/files.py" "sys_$handler" >"$work/one.py"
+    python3 "$root/launcher/transitions.py" "$work/sized/files.py" "sys_$handler" >"$work/one.py"
     # shellcheck disable=SC2086
     run "$(printf '%s processes, %s files, sys_%s' $size "$handler")" "$work/sized/files.ll" "$work/one.py"
   done

@@ -15,13 +15,13 @@ KEEP = 2
 
 
 def adopted(now):
-    """Whether the program that stands there is of these sources; it is kept then."""
-    if not program.is_runnable(BUILT) or not is_current():
-        return False
-    if sources.current() != now:
-        return False
-    keep(now)
-    return True
+    """The program that stands there, where it is of these sources; a copy of it, where one can be kept. Else None."""
+    if not program.is_runnable(BUILT) or not is_current() or sources.current() != now:
+        return None
+    try:
+        return keep(now)
+    except OSError:
+        return BUILT
 
 
 def is_current():
@@ -57,10 +57,11 @@ def changed_at(name):
 
 
 def keep(now):
-    """Keeps a copy of the program under the sources' name."""
+    """Keeps a copy of the program under the sources' name; its path."""
     home = kept("proved", now.name)
     os.makedirs(home, exist_ok=True)
     part = os.path.join(home, f"hkv.{os.getpid()}")
     shutil.copy2(BUILT, part)
     os.replace(part, os.path.join(home, "hkv"))
     work.drop_old(kept("proved"), now.name, KEEP)
+    return os.path.join(home, "hkv")

@@ -6,6 +6,7 @@ file is hard-linked as soon as it appears. The link outlives that folder, and is
 output file appears beside the module. The kit's clang and linker then make a program of it: at -O0 for the first answer, and at -O2 in
 the background, which takes the first one's place.
 """
+import errno
 import os
 import stat
 import sys
@@ -36,6 +37,16 @@ class Unlike(Exception):
 
 def quick(now):
     """The words that run the quick program of these sources, which is built where it is not there."""
+    try:
+        return found_or_built(now)
+    except OSError as error:
+        if error.errno in (errno.ENOSPC, errno.EDQUOT):
+            raise work.full(MEGABYTES) from None
+        raise
+
+
+def found_or_built(now):
+    """The same; a full disk comes as the system tells it."""
     home = kept("quick", now.name)
     program = os.path.join(home, "hkv")
     if not os.access(program, os.X_OK):

@@ -136,12 +136,18 @@ class Progress:
     def end(self, name):
         self.left.discard(name)
         self.spent += time.monotonic() - self.began
-        self.foreseen += self.expected.get(name, 0)
+        self.foreseen += self.foreseen_for(name)
         self.kept[name] = self.sums[name]
         part = kept(f"libraries.{os.getpid()}")
         with open(part, "w", encoding="utf-8") as file:
             json.dump(self.kept, file)
         os.replace(part, kept("libraries.json"))
+
+    def foreseen_for(self, name):
+        """The seconds that a crate took when it was measured; for one that was not, the mean of those that were."""
+        if name in self.expected or not self.expected:
+            return self.expected.get(name, 0)
+        return sum(self.expected.values()) / len(self.expected)
 
     def told(self):
         return f"proving {self.name}: {len(self.left)} of {len(self.sums)} crates left{self.minutes()}"
@@ -151,8 +157,8 @@ class Progress:
         if not self.expected:
             return ""
         pace = self.spent / self.foreseen if self.foreseen > 60 else 1
-        here = self.expected.get(self.name, 0)
-        others = sum(self.expected.get(it, 0) for it in self.left if it != self.name)
+        here = self.foreseen_for(self.name)
+        others = sum(self.foreseen_for(it) for it in self.left if it != self.name)
         seconds = (others + max(here - (time.monotonic() - self.began) / pace, 0)) * pace
         return f", about {max(round(seconds / 60), 1)} min"
 

@@ -16,6 +16,7 @@ import time
 
 from launcher import program, rows
 from launcher.places import CRATES, TOP
+from launcher.say import Fault
 from launcher.work import Line
 
 USAGE = "hkv selftest"
@@ -31,6 +32,8 @@ def run(words):
         return program.misused(USAGE)
     began = time.monotonic()
     command = program.argv()
+    if len(command) > 1:
+        raise Fault("the program runs by 'rt try' here, which takes minutes for each call: selftest makes hundreds of them")
     groups, left = stored()
     results = try_all(command, groups)
     faults = [line for result in results for line in result if line]

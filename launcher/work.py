@@ -60,6 +60,7 @@ def folder(prefix):
         finally:
             for it in STOPPERS:
                 signal.signal(it, signal.SIG_IGN)
+            end_strays(made)
             shutil.rmtree(made, ignore_errors=True)
 
 
@@ -72,6 +73,7 @@ def sweep(prefix):
     """Removes what killed calls left. The caller holds the lock under which such folders are made."""
     for name in os.listdir(KEPT):
         if name.startswith(prefix) and os.path.isdir(kept(name)):
+            end_strays(kept(name))
             shutil.rmtree(kept(name), ignore_errors=True)
 
 
@@ -92,6 +94,18 @@ def dies_with_parent():
         ctypes.CDLL(None).prctl(PR_SET_PDEATHSIG, signal.SIGTERM)
     except (OSError, AttributeError):
         pass
+
+
+def end_strays(folder):
+    """Ends the processes whose TMPDIR is in this folder: those that a tool has left, which was itself ended while it started them."""
+    mark = os.fsencode(f"TMPDIR={folder}{os.sep}")
+    for name in os.listdir("/proc") if os.path.isdir("/proc") else ():
+        if name.isdigit():
+            with contextlib.suppress(OSError):
+                with open(f"/proc/{name}/environ", "rb") as file:
+                    is_one = any(it.startswith(mark) for it in file.read().split(b"\0"))
+                if is_one:
+                    os.kill(int(name), signal.SIGKILL)
 
 
 class Child:

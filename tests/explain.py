@@ -140,7 +140,7 @@ class Bugs(unittest.TestCase):
     def test_the_line_to_blame(self):
         self.assertEqual(self.rejection('mbox_wrap')['mark']['code']['place']['shown'], 'mbox_wrap.c:47:25')
         self.assertEqual(self.rejection('mbox_full')['mark']['code']['place']['line'], 48)
-        self.assertEqual(self.rejection('early_write')['mark']['specification'], [76])
+        self.assertEqual(self.rejection('early_write')['mark']['specification'], [75])
 
 
 class Others(unittest.TestCase):

@@ -65,7 +65,7 @@ class Rows(unittest.TestCase):
         for code, entry in reasons.table().items():
             if entry.get('built', True) and re.fullmatch(r'[A-Z]\d+', code):
                 self.assertIn(f'error: {code}: {entry["words"]}', told, code)
-        for fault in ('read fault', 'long', 'usage'):
+        for fault in ('read fault', 'long'):
             self.assertIn(reasons.words(fault), told)
 
     def test_the_mark_stands_under_the_text_that_is_meant(self):

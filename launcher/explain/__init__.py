@@ -12,6 +12,19 @@ from launcher.say import Fault
 
 USAGE = 'hkv explain KERNEL SPEC [REPORT] [--json] [--html FILE]'
 
+HELP = """\
+hkv explain KERNEL SPEC [REPORT] [--json] [--html FILE]
+
+Says each rejection in the words of the source: the arguments and the state, in C where the kernel was compiled with -g; what the run does,
+or where and why it is stuck; what the transition gives, and where they differ; which part of an invariant or property is false, and where.
+REPORT is what hkv verify printed of these texts; without it they are verified now. Nothing that is shown is a verdict.
+
+  --json         print the same as JSON
+  --html FILE    write it as a page that stands alone
+
+Statuses: those of hkv verify, 4 also for a report of other texts.
+"""
+
 
 class Options:
     """The words of a call; files is empty where they have no form."""

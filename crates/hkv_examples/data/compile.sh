@@ -24,6 +24,12 @@ keep() { # keep FILE MAKER: the text that was made, against the one that is kept
   fi
 }
 
+only() { # only HANDLER: the specification with this handler alone
+  awk -v handler="$1" 'NR == 1 { on = 1 }
+    /^def / { name = $2; sub(/[(].*/, "", name); on = name == handler || name == "equiv" || name ~ /^(inv|prop)_/ }
+    on'
+}
+
 compile() { # compile NAME FILE [FLAG ..]: what clang writes for the file, against NAME.ll
   name=$1 file=$2
   shift 2
@@ -40,8 +46,8 @@ for bug in missing_bound:sys_close off_by_one:sys_dup kept_reference:sys_close e
   cp files.c "$work/files.c"
   (cd "$work" && patch -s files.c) <"$name.patch"
   compile "$name" files.c
-  python3 only.py files.py "${bug#*:}" >"$work/made"
-  keep "$name.py" only.py
+  only "${bug#*:}" <files.py >"$work/made"
+  keep "$name.py" "the text of files.py for ${bug#*:}"
 done
 debug='-g -fdebug-compilation-dir=.'
 for name in mbox pages; do

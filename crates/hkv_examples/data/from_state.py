@@ -19,7 +19,8 @@ def top():
 
 def main():
     if len(sys.argv) != 5:
-        sys.exit('usage: from_state.py KERNEL REPORT HANDLER OUT')
+        print('usage: from_state.py KERNEL REPORT HANDLER OUT', file=sys.stderr)
+        sys.exit(4)
     if top() is None:
         sys.exit('from_state.py: there is no hkv on the PATH')
     sys.path.insert(0, top())
