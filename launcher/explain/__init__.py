@@ -13,8 +13,6 @@ from launcher.say import Fault
 USAGE = 'hkv explain KERNEL SPEC [REPORT] [--json] [--html FILE]'
 
 HELP = """\
-hkv explain KERNEL SPEC [REPORT] [--json] [--html FILE]
-
 Says each rejection in the words of the source: the arguments and the state, in C where the kernel was compiled with -g; what the run does,
 or where and why it is stuck; what the transition gives, and where they differ; which part of an invariant or property is false, and where.
 REPORT is what hkv verify printed of these texts; without it they are verified now. Nothing that is shown is a verdict.
@@ -46,6 +44,9 @@ class Options:
 
 
 def run(words):
+    if words[:1] and words[0] in ('--help', '-h'):
+        from launcher import help as pages
+        return pages.run(['explain'])
     options = Options(words)
     if len(options.files) not in (2, 3):
         print(f'usage: {USAGE}', file=sys.stderr)
@@ -116,21 +117,20 @@ def verified(kernel_path, spec_path):
     """The report of a call of `verify`, with the seconds until each handler's line came, and the status. A refusal is said in
     words, as by `verify` itself, and then there is no report."""
     import subprocess
-    child = subprocess.Popen([*program.argv(), 'verify', kernel_path, spec_path], stdout=subprocess.PIPE, bufsize=0)
+
+    from launcher import refusals
     lines, times, before = [], {}, time.monotonic()
-    for line in child.stdout:
-        now = time.monotonic()
-        line = line.decode(errors='surrogateescape')
-        lines.append(line)
-        words = line.split()
-        if words and not line.startswith(' ') and words[0] in ('accept', 'reject', 'unknown', 'memory'):
-            times[words[1]], before = round(now - before, 3), now
-        elif line.startswith('init '):
-            before = now
-    status = child.wait()
+    with refusals.spawn(['verify', kernel_path, spec_path], stdout=subprocess.PIPE, bufsize=0) as child:
+        for line in child.stdout:
+            now, line = time.monotonic(), line.decode(errors='surrogateescape')
+            lines.append(line)
+            words = line.split()
+            if words and not line.startswith(' ') and words[0] in ('accept', 'reject', 'unknown', 'memory', 'init'):
+                times[words[1]], before = round(now - before, 3), now
+        child.stdout.close()
+        status = refusals.status_of(child)
     text = ''.join(lines)
     if not text.startswith('init '):
-        from launcher import refusals
         sys.stdout.write(text)
         sys.stdout.flush()
         refusals.speak(['verify', kernel_path, spec_path], status, text.encode(errors='surrogateescape'), {})
