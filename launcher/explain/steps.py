@@ -105,13 +105,19 @@ def told_of(subject, walk, step):
 def detail(subject, walk, last, code):
     """More on an access where a run is stuck: the address, and for one that is outside the bound that it breaks."""
     if last is None or not isinstance(last.address, Pointer) or not last.address.name:
-        return None
+        return operands(last)
     address, path = last.address, walk.path(last.address)
     over = subject.kernel.global_named(address.name)
     if over is None or code not in ('U6', 'U7', 'U8'):
         return {'path': path, 'words': f'the access is to {path}'}
     size = subject.kernel.size_of(over.type)
     return {'path': path, 'offset': address.offset, 'size': size, 'words': bound(subject.kernel, over, address, path, size)}
+
+
+def operands(last):
+    """The numbers on which an instruction is stuck."""
+    told = [f'%{name} = {shown(value, 64)}' for name, value in (last.operands if last else ()) if isinstance(value, int)]
+    return {'path': None, 'words': ', '.join(told)} if told else None
 
 
 def bound(kernel, over, address, path, size):
