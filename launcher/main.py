@@ -3,6 +3,7 @@ from launcher.say import UNABLE, Fault, fault_of, say
 
 # A command, the module whose `run(words)` answers it and gives the exit status, and what --help says of it.
 COMMANDS = {
+    "explain": ("launcher.explain", "say each rejection in the words of the source, as text, JSON or a page"),
     "handlers": ("launcher.handlers", "print the handlers of a specification that is read, in order"),
     "premises": ("launcher.premises", "print what a verdict of two texts rests on"),
     "prove": ("launcher.prove", "prove everything, and build the program that everything is claimed of"),

@@ -9,6 +9,7 @@ import re
 from launcher import kernel_marks, kernel_text, reasons, source_text, spec_marks, spec_text
 
 TEXTS = {'kernel': 1, 'spec': 2, 'cert': 3, 'cnf': 1}
+MOST_LINES = 300000
 NOT_PLAIN = re.compile(r'[\x00-\x08\x0b-\x1f\x7f-\x9f]')
 
 
@@ -58,8 +59,9 @@ class Files:
         return source_text.lines_of(self.path(word))
 
     def kernel(self):
+        """The kernel by its parts; none where it is not there, or so large that reading it here would take long."""
         lines = self.lines(1)
-        return kernel_text.Kernel('\n'.join(lines), self.path(1)) if lines else None
+        return kernel_text.Kernel('\n'.join(lines), self.path(1)) if lines and len(lines) <= MOST_LINES else None
 
 
 def error(name, line, code):
@@ -111,7 +113,7 @@ def last_of_item(lines, line):
 
 def shown_line(lines, line, mark):
     """The text of the line, and of the later physical line on which the mark stands."""
-    at = getattr(mark, 'line', line) if mark else line
+    at = mark.line or line if mark else line
     if mark is None or mark.column is None:
         return source_text.marked(line, lines[line - 1])
     before = source_text.marked(line, lines[line - 1]) if at != line else []

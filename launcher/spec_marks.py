@@ -185,9 +185,22 @@ def path(line):
         found = read_path(line.kernel, node) if isinstance(node, (ast.Attribute, ast.Subscript)) else None
         at = line.kernel.whole(found.type) if found and found.type else None
         if found and (at is None or at.kind != 'int'):
-            words = f'the path ends at {described(line.kernel, at)}' if at else 'a step of the path does not fit the type before it'
+            words = f'the path ends at {described(line.kernel, at)}' if at else misstep(line.kernel, found)
             return line.at(node, (found.over.line if found.over else None, words))
     return None
+
+
+def misstep(kernel, found):
+    """The first step of a path that does not fit the type before it."""
+    at = kernel.whole(found.over.type) if found.over else None
+    for kind, step in found.steps:
+        if at is None or (kind == 'index') != (at.kind == 'array') or (kind == 'field' and not 0 <= step < len(at.parts)):
+            break
+        at = kernel.whole(at.parts[0] if kind == 'index' else at.parts[step])
+    spelled = '`[..]`' if kind == 'index' else f'`.f{step}`'
+    what = {'array': f'an array of {at.number} elements', 'struct': f'a struct of {len(at.parts)} members',
+            'packed': f'a packed struct of {len(at.parts)} parts'}.get(at.kind, f'a value of the type {at}') if at else 'no variable'
+    return f'{spelled} stands behind {what}'
 
 
 def described(kernel, at):

@@ -8,8 +8,20 @@ import sys
 import time
 
 from launcher import kernel_text, program, spec_text
+from launcher.say import Fault
 
 USAGE = 'hkv explain KERNEL SPEC [REPORT] [--json] [--html FILE]'
+
+HELP = """\
+Says each rejection in the words of the source: the arguments and the state, in C where the kernel was compiled with -g; what the run does,
+or where and why it is stuck; what the transition gives, and where they differ; which part of an invariant or property is false, and where.
+REPORT is what hkv verify printed of these texts; without it they are verified now. Nothing that is shown is a verdict.
+
+  --json         print the same as JSON
+  --html FILE    write it as a page that stands alone
+
+Statuses: those of hkv verify, 4 also for a report of other texts.
+"""
 
 
 class Options:
@@ -32,6 +44,9 @@ class Options:
 
 
 def run(words):
+    if words[:1] and words[0] in ('--help', '-h'):
+        from launcher import help as pages
+        return pages.run(['explain'])
     options = Options(words)
     if len(options.files) not in (2, 3):
         print(f'usage: {USAGE}', file=sys.stderr)
@@ -64,7 +79,11 @@ def explained(kernel_path, spec_path, report_path=None):
     if not found.opening:
         print('hkv: there is no report of `hkv verify` here' + (f': {report_path}' if report_path else ''), file=sys.stderr)
         return None, 4
-    kernel, spec = kernel_text.load(kernel_path), spec_text.load(spec_path)
+    kernel, spec = loaded(kernel_path, spec_path)
+    others = [one.handler for one in found.rejections if not spec.transition(one.handler) or one.handler not in kernel.functions]
+    if others:
+        print(f'hkv: the report is of other texts: it rejects {others[0]}', file=sys.stderr)
+        return None, 4
     with ask.Ask(spec) as asked:
         subject = cases.Subject(kernel, spec, asked)
         rejections = [cases.explain(subject, one) for one in found.rejections]
@@ -74,6 +93,14 @@ def explained(kernel_path, spec_path, report_path=None):
                 for one in found.verdicts]
     return {'kernel': kernel_path, 'specification': spec_path, 'opening': opening, 'verdicts': verdicts,
             'rejections': rejections, 'asked': calls, 'proved': program.is_proved()}, status
+
+
+def loaded(kernel_path, spec_path):
+    """Both texts by their parts."""
+    try:
+        return kernel_text.load(kernel_path), spec_text.load(spec_path)
+    except (SyntaxError, ValueError, RecursionError) as error:
+        raise Fault(f'{spec_path}: this specification cannot be shown here, since Python does not read it: {error}') from error
 
 
 def read_report(path):
@@ -90,21 +117,20 @@ def verified(kernel_path, spec_path):
     """The report of a call of `verify`, with the seconds until each handler's line came, and the status. A refusal is said in
     words, as by `verify` itself, and then there is no report."""
     import subprocess
-    child = subprocess.Popen([*program.argv(), 'verify', kernel_path, spec_path], stdout=subprocess.PIPE, bufsize=0)
+
+    from launcher import refusals
     lines, times, before = [], {}, time.monotonic()
-    for line in child.stdout:
-        now = time.monotonic()
-        line = line.decode(errors='surrogateescape')
-        lines.append(line)
-        words = line.split()
-        if words and not line.startswith(' ') and words[0] in ('accept', 'reject', 'unknown', 'memory'):
-            times[words[1]], before = round(now - before, 3), now
-        elif line.startswith('init '):
-            before = now
-    status = child.wait()
+    with refusals.spawn(['verify', kernel_path, spec_path], stdout=subprocess.PIPE, bufsize=0) as child:
+        for line in child.stdout:
+            now, line = time.monotonic(), line.decode(errors='surrogateescape')
+            lines.append(line)
+            words = line.split()
+            if words and not line.startswith(' ') and words[0] in ('accept', 'reject', 'unknown', 'memory', 'init'):
+                times[words[1]], before = round(now - before, 3), now
+        child.stdout.close()
+        status = refusals.status_of(child)
     text = ''.join(lines)
     if not text.startswith('init '):
-        from launcher import refusals
         sys.stdout.write(text)
         sys.stdout.flush()
         refusals.speak(['verify', kernel_path, spec_path], status, text.encode(errors='surrogateescape'), {})

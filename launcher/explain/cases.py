@@ -7,7 +7,7 @@ from launcher import reasons
 from launcher.explain import facts, falsity, marks, shrink, steps
 from launcher.explain.evaluate import State, abstraction, named, transition
 from launcher.explain.memory import Memory, begins_in, typed
-from launcher.explain.paths import Paths, shown
+from launcher.explain.paths import Paths, place_of, shown
 from launcher.kernel_debug import CType
 
 MEANS = {
@@ -25,7 +25,7 @@ class Subject:
 
     def __init__(self, kernel, spec, ask):
         self.kernel, self.spec, self.ask = kernel, spec, ask
-        self.paths, self.spec_paths = Paths(kernel), {}
+        self.paths = Paths(kernel)
         self.handlers = [one.name for one in spec.transitions]
 
     def still_violates(self, verdict, block):
@@ -121,7 +121,8 @@ def explain(subject, verdict):
              'smaller': described(subject, verdict, small) if small else None, 'zeroed': zeroed,
              'source': sources(subject, verdict.handler)}
     tell = of_state if case.state is not None else of_run
-    found.update(tell(subject, verdict, case))
+    found.update(run=None, transition=None, difference=None, false=None)
+    tell(subject, verdict, case, found)
     found['mark'] = marks.mark(subject, found, verdict)
     return found
 
@@ -137,33 +138,32 @@ def sources(subject, handler):
 
 # A case of a run
 
-def of_run(subject, verdict, case):
+def of_run(subject, verdict, case, found):
     """What the run does from a memory, what the transition gives there, and where they differ."""
     kind, name = verdict.about
     end = subject.ask.run(begins_in(subject.kernel, case.memory), verdict.handler, case.args)
-    found = {'run': None, 'transition': None, 'difference': None, 'false': None}
     if end[0] == 'stuck':
         found['run'] = stuck(subject, verdict, case, end[1], end[2])
-        return found
     if end[0] != 'returns':
-        return found
+        return
     after = Memory(subject.kernel, end[2])
     found['run'] = returned(subject, verdict, case, end[1], after)
     before = abstraction(subject.spec, subject.kernel, case.memory)
     outcome, _ = transition(subject.spec, subject.kernel, subject.spec.transition(verdict.handler), before, case.args)
     behind = abstraction(subject.spec, subject.kernel, after)
     found['transition'] = given(subject, verdict, before, outcome, case.args)
+    found['transition']['run'] = differences(subject, behind, outcome)
     if kind == 'state':
-        found['difference'] = differing(subject, name, behind, outcome)
+        found['difference'] = {'kind': 'state', 'name': name,
+                               'entries': [one for one in found['transition']['run'] if one['field'] == name]}
     elif kind == 'result':
         found['difference'] = results(subject, verdict, end[1], outcome)
     elif kind == 'invariant':
         found['false'] = invariant(subject, name, case.memory, after)
-    return found
 
 
 def stuck(subject, verdict, case, code, line):
-    walked, detail = steps.of_run(subject, verdict.handler, case, line)
+    walked, detail = steps.of_run(subject, verdict.handler, case, line, code)
     return {'ends': 'stuck', 'code': code, 'words': reasons.words(code), 'hint': reasons.hint(code), 'line': line,
             'text': subject.kernel.lines[line - 1].strip(), **steps.where(subject.kernel, line), 'steps': walked,
             'detail': detail}
@@ -173,11 +173,12 @@ def returned(subject, verdict, case, value, after):
     function = subject.kernel.functions[verdict.handler]
     ctype = subject.kernel.debug.result(function)
     width = function.result.number
-    return {'ends': 'returns', 'value': value, 'shown': shown(value, width, ctype or signed_type(width)) if value is not None else None,
+    walked, _ = steps.of_run(subject, verdict.handler, case, None)
+    return {'ends': 'returns', 'value': value, 'left': steps.left_at(walked), 'shown': shown(value, width, ctype or signed_type(width)) if value is not None else None,
             'changes': [{'path': leaf.path, 'before': was, 'after': now, 'shown': [leaf.shown(was), leaf.shown(now)]}
                         for leaf, was, now in subject.paths.changed(case.memory, after)],
             'after': [place(leaf, value) for leaf, value in subject.paths.nonzero(after)],
-            'steps': steps.of_run(subject, verdict.handler, case, None)[0]}
+            'steps': walked}
 
 
 def signed_type(width):
@@ -207,14 +208,11 @@ def result_words(outcome, width):
     return None
 
 
-def differing(subject, name, behind, outcome):
-    """Each entry of a field at which the run and the transition differ."""
-    field = subject.spec.field(name)
-    return {'kind': 'state', 'name': name,
-            'entries': [{'path': named(field.name, keys), 'keys': list(keys), 'run': run, 'transition': gives,
-                         'c': c_of_entry(subject, field, keys),
-                         'shown': [shown(run, field.sort.width), shown(gives, field.sort.width)]}
-                        for _, keys, run, gives in behind.differences(outcome.state, field)]}
+def differences(subject, behind, outcome):
+    """Each entry of the abstract state at which the run and the transition differ."""
+    return [{'path': named(field.name, keys), 'field': field.name, 'keys': list(keys), 'run': run, 'transition': gives,
+             'c': c_of_entry(subject, field, keys), 'shown': [shown(run, field.sort.width), shown(gives, field.sort.width)]}
+            for field, keys, run, gives in behind.differences(outcome.state)]
 
 
 def c_of_entry(subject, field, keys):
@@ -226,13 +224,15 @@ def c_of_entry(subject, field, keys):
 def results(subject, verdict, value, outcome):
     width = subject.kernel.functions[verdict.handler].result.number
     return {'kind': 'result', 'name': '', 'entries': [{
-        'path': 'result', 'keys': [], 'c': None, 'run': value, 'transition': outcome.result,
+        'path': 'result', 'field': None, 'keys': [], 'c': None, 'run': value, 'transition': outcome.result,
         'shown': [shown(value, width, signed_type(width)), result_words(outcome, width)]}]}
 
 
 def invariant(subject, name, before, after):
     """What is false of an invariant behind the run."""
     function = subject.spec.function('invariant', name)
+    if function is None:
+        return None
     part, evaluator = falsity.of_function(subject.spec, subject.kernel, function, memory=after)
     if part is None:
         return None
@@ -247,21 +247,13 @@ def c_names(subject, evaluator, part, before):
     for text, value, width in part.reads:
         found.append({'path': text, 'value': value, 'shown': shown(value, width if isinstance(width, int) else 1),
                       'c': None, 'before': None})
-    leaves = {leaf_path(subject, leaf): leaf for over in subject.kernel.mutable for leaf in subject.paths.leaves(over)}
     for one in found:
-        leaf = leaves.get(one['path'])
-        if leaf:
+        place_ = place_of(subject.kernel, one['path'])
+        leaf = subject.paths.at(*place_) if place_ else None
+        if leaf and leaf.offset == place_[1]:
             one['before'] = leaf.of(before)
             one['c'] = leaf.path if 'kernel.' + leaf.path != one['path'] else None
     return found
-
-
-def leaf_path(subject, leaf):
-    """The path of a leaf as a specification writes it."""
-    over = subject.kernel.global_named(leaf.name)
-    if leaf.name not in subject.spec_paths:
-        subject.spec_paths[leaf.name] = {offset: path for path, offset, _ in subject.kernel.leaves(over.type)}
-    return f'kernel.{leaf.name}{subject.spec_paths[leaf.name].get(leaf.offset, "")}'
 
 
 def told(subject, function, part, confirmed, reads):
@@ -271,18 +263,19 @@ def told(subject, function, part, confirmed, reads):
 
 # A case of the specification alone
 
-def of_state(subject, verdict, case):
+def of_state(subject, verdict, case, found):
     """What the transition gives from an abstract state, and what is false in its end."""
     kind, name = verdict.about
     function = subject.spec.transition(verdict.handler)
     outcome, _ = transition(subject.spec, subject.kernel, function, case.state, case.args)
-    found = {'run': None, 'difference': None, 'false': None,
-             'transition': given(subject, verdict, case.state, outcome, case.args)}
+    found['transition'] = given(subject, verdict, case.state, outcome, case.args)
     blamed = subject.spec.function(kind, name)
+    if blamed is None:
+        return
     states = {'state': outcome.state} if kind == 'property' else dict(zip(blamed.params, (case.state, outcome.state)))
     part, evaluator = falsity.of_function(subject.spec, subject.kernel, blamed, states=states)
     if part is None:
-        return found
+        return
     text = falsity.grounded(evaluator, part.node, part.at)
     confirmed = None
     if kind == 'property':
@@ -290,7 +283,6 @@ def of_state(subject, verdict, case):
     reads = [{'path': text, 'value': value, 'shown': shown(value, width if isinstance(width, int) else 1), 'c': None,
               'before': value_before(subject, case.state, text)} for text, value, width in part.reads]
     found['false'] = told(subject, blamed, part, confirmed, reads)
-    return found
 
 
 def value_before(subject, state, text):

@@ -59,7 +59,7 @@ def mark(subject, found, verdict):
     if run and run['ends'] == 'stuck':
         code = {'line': run['line'], 'place': run['place']}
     else:
-        code = written(steps, blamed_paths(found)) or (ran[-1] if ran else None)
+        code = written(steps, blamed_paths(found)) or (run or {}).get('left')
     return {'code': code, 'ran': ran, 'specification': spec_lines(subject, found, verdict)}
 
 

@@ -23,7 +23,7 @@ th, td { padding: .2rem .7rem .2rem 0; border-bottom: 1px solid var(--line); ver
 .unknown td.verdict, .memory td.verdict { color: #b54708 }
 .source { border: 1px solid var(--line); border-radius: 6px; overflow-x: auto; padding: .4rem 0 }
 .source div { white-space: pre; padding: 0 .8rem; font: 13px/1.45 ui-monospace, "DejaVu Sans Mono", monospace }
-.source .no { display: inline-block; width: 3.5em; color: var(--soft); user-select: none }
+.source + .source { margin-top: .5rem } .source .no { display: inline-block; width: 3.5em; color: var(--soft); user-select: none }
 .source .ran { background: #eef4ff } .source .failing { background: #fee4e2; box-shadow: inset 4px 0 var(--red) }
 .columns { display: grid; grid-template-columns: repeat(auto-fit, minmax(20rem, 1fr)); gap: 0 1.6rem }
 .was { color: var(--red); background: #fef3f2 } .now { color: var(--green); background: #ecfdf3; font-weight: 600 }
@@ -113,11 +113,15 @@ def find_c(place, kernel_path):
 
 
 def excerpts(path, failing, ran):
-    """The lines of a file round those that are marked."""
-    lines = source_text.lines_of(path)
-    marked = failing | ran
-    begin, end = max(1, min(marked) - 3), min(len(lines), max(marked) + 3)
-    return listing(path, begin, end, failing, ran)
+    """The lines of a file round those that are marked, with a gap where lines between are left out."""
+    count, out, begin = len(source_text.lines_of(path)), [], None
+    marked = sorted(failing | ran)
+    for at, line in enumerate(marked):
+        begin = max(1, line - 3) if begin is None else begin
+        if at + 1 == len(marked) or marked[at + 1] - line > 8:
+            out.append(listing(path, begin, min(count, line + 2), failing, ran))
+            begin = None
+    return '\n'.join(out)
 
 
 def listing(path, begin, end, failing, ran=()):
@@ -166,7 +170,7 @@ def transition(one):
     given = one['transition']
     if not given:
         return ''
-    differing = {entry['path']: entry for entry in (one['difference'] or {}).get('entries', ())}
+    differing = {entry['path']: entry for entry in given.get('run', ())}
     changes = {change['path']: change['shown'] for change in given['changes']}
     end = {entry['path']: entry['shown'] for entry in given['end']}
     paths = list(end) + [path for path in [*changes, *differing] if path not in end]

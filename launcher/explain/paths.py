@@ -3,6 +3,7 @@
 In comes a kernel, out goes each integer of a global as a Leaf: its path in C where debug metadata names types and members
 (`procs[3].limit`), else as a specification writes it (`procs[3].f1`), and how its number is shown.
 """
+import re
 from dataclasses import dataclass
 
 from launcher.kernel_debug import CType
@@ -45,65 +46,95 @@ def shown(value, width, ctype=None):
 
 
 class Paths:
-    """The leaves of each global of a kernel, made when they are asked for."""
+    """The leaves of the globals of a kernel, by the bytes that they hold: none is made that nobody asks for."""
 
     def __init__(self, kernel):
-        self.kernel, self.made = kernel, {}
+        self.kernel, self.ctypes = kernel, {}
 
-    def leaves(self, over):
-        """The leaves of a global in the order of their offsets."""
-        if over.name not in self.made:
-            ctype = self.kernel.debug.variable(over)
-            size = 8 * self.kernel.size_of(over.type)
-            named = list(c_leaves(over.name, ctype)) if ctype and ctype.size == size else None
-            self.made[over.name] = named or self.plain(over)
-        return self.made[over.name]
+    def ctype(self, over):
+        """The C type of a global, where it is known and as large as the global."""
+        if over.name not in self.ctypes:
+            found = self.kernel.debug.variable(over)
+            self.ctypes[over.name] = found if found and found.size == 8 * self.kernel.size_of(over.type) else None
+        return self.ctypes[over.name]
 
-    def plain(self, over):
-        return [Leaf(over.name, over.name + path, offset, width)
-                for path, offset, width in self.kernel.leaves(over.type)]
-
-    def all(self):
-        """The leaves of all mutable globals."""
-        return [leaf for over in self.kernel.mutable for leaf in self.leaves(over)]
+    def covering(self, over, byte):
+        """The leaves that hold a byte of a global: several where they are bit-fields."""
+        ctype = self.ctype(over)
+        found = list(c_leaves(over.name, ctype, byte)) if ctype else []
+        return found or list(plain_leaves(self.kernel, over.name, over.type, byte))
 
     def at(self, name, offset):
         """The leaf that holds a byte of a global, or none."""
         over = self.kernel.global_named(name)
-        for leaf in self.leaves(over) if over else ():
-            if leaf.offset <= offset < leaf.offset + leaf.width // 8:
-                return leaf
-        return None
+        return next(iter(self.covering(over, offset)), None) if over else None
+
+    def of_bytes(self, over, numbers):
+        """The leaves that hold some of these bytes, each once, in their order."""
+        found, end = {}, -1
+        for byte in numbers:
+            if byte < end:
+                continue
+            leaves = self.covering(over, byte)
+            found.update({(leaf.offset, leaf.shift): leaf for leaf in leaves})
+            end = max((leaf.offset + leaf.width // 8 for leaf in leaves if not leaf.bits), default=-1)
+        return list(found.values())
 
     def changed(self, before, after):
         """The leaves whose numbers differ in two memories, with both."""
         found = []
         for over in self.kernel.mutable:
-            if before.bytes[over.name] != after.bytes[over.name]:
-                pairs = ((leaf, leaf.of(before), leaf.of(after)) for leaf in self.leaves(over))
-                found += [pair for pair in pairs if pair[1] != pair[2]]
+            was, now = before.bytes[over.name], after.bytes[over.name]
+            if was != now:
+                leaves = self.of_bytes(over, (k for k in range(len(was)) if was[k] != now[k]))
+                found += [(leaf, leaf.of(before), leaf.of(after)) for leaf in leaves if leaf.of(before) != leaf.of(after)]
         return found
 
     def nonzero(self, memory):
         """The leaves that are not zero, with their numbers."""
-        return [(leaf, leaf.of(memory)) for over in self.kernel.mutable if any(memory.bytes[over.name])
-                for leaf in self.leaves(over) if leaf.of(memory)]
+        found = []
+        for over in self.kernel.mutable:
+            content = memory.bytes[over.name]
+            if any(content):
+                leaves = self.of_bytes(over, (k for k, byte in enumerate(content) if byte))
+                found += [(leaf, leaf.of(memory)) for leaf in leaves if leaf.of(memory)]
+        return found
 
 
-def c_leaves(name, ctype, offset=0, path=None):
-    """The integers of a C type in order; offset is in bits. None is given for padding, and a union shows its first member."""
+def plain_leaves(kernel, name, over, byte, offset=0, path=None):
+    """The integer of an LLVM type that holds a byte, under the path of a specification."""
+    over, path = kernel.whole(over), name if path is None else path
+    if over.kind == 'int':
+        if offset <= byte < offset + over.number // 8:
+            yield Leaf(name, path, offset, over.number)
+    elif over.kind == 'array':
+        size = kernel.size_of(over.parts[0])
+        at = (byte - offset) // size if size else over.number
+        if 0 <= at < over.number:
+            yield from plain_leaves(kernel, name, over.parts[0], byte, offset + at * size, f'{path}[{at}]')
+    elif over.kind in ('struct', 'packed'):
+        for k, (part, at) in enumerate(zip(over.parts, kernel.offsets(over)[0])):
+            if offset + at <= byte < offset + at + kernel.size_of(part):
+                yield from plain_leaves(kernel, name, part, byte, offset + at, f'{path}.f{k}')
+
+
+def c_leaves(name, ctype, byte, offset=0, path=None):
+    """The integers of a C type that hold a byte; offset is in bits. Padding has none, and of a union the widest member is shown."""
     path = name if path is None else path
     if ctype.kind == 'array':
-        for k in range(ctype.count):
-            yield from c_leaves(name, ctype.element, offset + k * ctype.element.size, f'{path}[{k}]')
+        at = (8 * byte - offset) // ctype.element.size if ctype.element.size else ctype.count
+        if 0 <= at < ctype.count:
+            yield from c_leaves(name, ctype.element, byte, offset + at * ctype.element.size, f'{path}[{at}]')
     elif ctype.kind in ('struct', 'union'):
         members = ctype.members if ctype.kind == 'struct' else widest(ctype.members)
         for member, at, bits, inner in members:
+            if not (offset + at < 8 * byte + 8 and 8 * byte < offset + at + bits):
+                continue
             inner_path = f'{path}.{member}' if member else path
             if inner.kind not in ('array', 'struct', 'union') and bits != inner.size:
                 yield bit_field(name, inner_path, offset + at, bits, inner)
             else:
-                yield from c_leaves(name, inner, offset + at, inner_path)
+                yield from c_leaves(name, inner, byte, offset + at, inner_path)
     elif ctype.size in (8, 16, 32, 64):
         yield Leaf(name, path, offset // 8, ctype.size, ctype)
 
@@ -120,3 +151,20 @@ def bit_field(name, path, at, bits, inner):
         if at // width == (at + bits - 1) // width:
             return Leaf(name, path, at // width * width // 8, width, inner, at % width, bits)
     return Leaf(name, path, at // 8, 64, inner, at % 8, bits)
+
+
+def place_of(kernel, text):
+    """The global and the offset of a path `kernel.NAME[..].fK` with numbers for indices, or none."""
+    found = re.fullmatch(r'kernel\.([A-Za-z_]\w*)((?:\[\d+\]|\.f\d+)*)', text)
+    over = kernel.global_named(found[1]) if found else None
+    if over is None:
+        return None
+    at, offset = over.type, 0
+    for step in re.findall(r'\[\d+\]|\.f\d+', found[2]):
+        at = kernel.whole(at)
+        number = int(re.sub(r'\D', '', step))
+        if number >= (at.number if at.kind == 'array' else len(at.parts)):
+            return None
+        offset += number * kernel.size_of(at.parts[0]) if at.kind == 'array' else kernel.offsets(at)[0][number]
+        at = at.parts[0] if at.kind == 'array' else at.parts[number]
+    return over.name, offset

@@ -27,7 +27,7 @@ def place_values(kernel, place):
             'text': text.strip() if text else None, 'caller': place_values(kernel, place.caller)}
 
 
-def of_run(subject, handler, case, line):
+def of_run(subject, handler, case, line, code=None):
     """The steps of a run and more on its last one, or none where the program did not tell them."""
     try:
         traced = tracing.trace(subject.ask, subject.kernel, case.memory, handler, case.args, line)
@@ -38,7 +38,7 @@ def of_run(subject, handler, case, line):
     events, silent = traced
     walk = Walk(subject.kernel, subject.paths, events, silent, line)
     walked = walk.run(handler, case.args)
-    return grouped(subject, walk, walked), detail(subject, walk, walked[-1] if walked and line else None)
+    return grouped(subject, walk, walked), detail(subject, walk, walked[-1] if walked and line else None, code)
 
 
 def grouped(subject, walk, walked):
@@ -48,16 +48,29 @@ def grouped(subject, walk, walked):
         place = subject.kernel.debug.place(step.instr)
         key = (place.file, place.line) if place else None
         told = told_of(subject, walk, step)
+        if is_stuck(walk, step, walked):
+            told['text'] = ''
         if found and (key is None or found[-1]['key'] in (key, None)) and subject.kernel.debug.is_there:
+            found[-1]['last'] = step.instr.line
             found[-1]['key'] = found[-1]['key'] or key
             extend(found[-1], told, place, subject)
-        elif told['text'] or key:
-            found.append({'key': key, 'place': place_values(subject.kernel, place), 'line': step.instr.line,
+        elif told['text'] or key or step is walked[-1]:
+            found.append({'key': key, 'last': step.instr.line, 'place': place_values(subject.kernel, place), 'line': step.instr.line,
                           'instruction': step.instr.text.split(', !')[0], 'tells': []})
             extend(found[-1], told, place, subject)
     for one in found:
         del one['key']
     return [one for one in found if one['tells'] or one is found[-1]]
+
+
+def is_stuck(walk, step, walked):
+    """Whether a step is the one at which the run is stuck, and so did nothing."""
+    return step is walked[-1] and step.instr.line == walk.line
+
+
+def left_at(walked):
+    """Where a run leaves the handler."""
+    return {'line': walked[-1]['last'], 'place': walked[-1]['place']} if walked else None
 
 
 def extend(group, told, place, subject):
@@ -89,16 +102,22 @@ def told_of(subject, walk, step):
     return found
 
 
-def detail(subject, walk, last):
-    """More on an access where a run is stuck: the address, and the bound that it breaks."""
+def detail(subject, walk, last, code):
+    """More on an access where a run is stuck: the address, and for one that is outside the bound that it breaks."""
     if last is None or not isinstance(last.address, Pointer) or not last.address.name:
-        return None
+        return operands(last)
     address, path = last.address, walk.path(last.address)
     over = subject.kernel.global_named(address.name)
-    if over is None:
-        return {'path': path, 'words': path}
+    if over is None or code not in ('U6', 'U7', 'U8'):
+        return {'path': path, 'words': f'the access is to {path}'}
     size = subject.kernel.size_of(over.type)
     return {'path': path, 'offset': address.offset, 'size': size, 'words': bound(subject.kernel, over, address, path, size)}
+
+
+def operands(last):
+    """The numbers on which an instruction is stuck."""
+    told = [f'%{name} = {shown(value, 64)}' for name, value in (last.operands if last else ()) if isinstance(value, int)]
+    return {'path': None, 'words': ', '.join(told)} if told else None
 
 
 def bound(kernel, over, address, path, size):

@@ -155,7 +155,7 @@ class Walk:
         if instr.op == 'getelementptr':
             rest = body[len('getelementptr'):].strip()
             is_bound = rest.startswith('inbounds')
-            return self.element(re.sub(r'^(inbounds|nuw|nusw)\s+', '', rest), values, is_bound)
+            return self.element(re.sub(r'^(?:(?:inbounds|nuw|nusw)\s+)+', '', rest), values, is_bound)
         if instr.op == 'alloca':
             return Pointer('%' + instr.result, 0, '%' + instr.result)
         if instr.op == 'phi':
