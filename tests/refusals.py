@@ -1,8 +1,9 @@
 #!/usr/bin/env python3
 """Tests of refusals in words (launcher/refusals.py): each row of refusals.json is texts in, and both outputs and the status out.
 
-The line on standard output and the status are the program's; the words beside it were written down by hand from the texts. That each
-reason of the table has a row, and that both documents have the same table, is tested too.
+The line on standard output and the status of most rows are worked rows of the program. The words beside it were recorded and then read
+through one by one against the texts; what marks stand under, and what is advised for the C constructs of the guide, are tables that were
+written by hand. That each reason has a row, and that both documents have the same table, is tested too.
 """
 import json
 import os
