@@ -110,7 +110,7 @@ class PassingThrough(unittest.TestCase):
             plain, through = self.program(words), subprocess.run([HKV, *words], cwd=EXAMPLES, capture_output=True)
             self.assertEqual((through.stdout, through.returncode), (plain.stdout, plain.returncode))
             said = [line for line in through.stderr.decode().splitlines() if not line.startswith(QUICK)]
-            self.assertEqual(said, [], 'nothing is said of a decided call')
+            self.assertEqual([line for line in said if ': error: ' in line or ': hint: ' in line], [], 'a decided call is no refusal')
 
     def test_a_full_output_is_the_write_fault(self):
         with open('/dev/full', 'w') as full:
