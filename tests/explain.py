@@ -292,8 +292,9 @@ class Page(unittest.TestCase):
         self.found('pages_wx', r'<strong>prop_write_or_execute is false after the transition')
 
     def test_a_picture(self):
+        """docs/explain.png is what HKV_TEST_PICTURE=docs/explain.png saves here."""
         path = os.path.join(self.folder.name, 'page.png')
-        self.browse(self.pages['mbox_full'][0], '--window-size=1000,1120', '--screenshot=' + path)
+        self.browse(self.pages['mbox_full'][0], '--window-size=1000,1530', '--force-device-scale-factor=0.75', '--screenshot=' + path)
         with open(path, 'rb') as file:
             content = file.read()
         self.assertTrue(content.startswith(b'\x89PNG') and len(content) > 10000)

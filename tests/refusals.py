@@ -1,8 +1,9 @@
 #!/usr/bin/env python3
 """Tests of refusals in words (launcher/refusals.py): each row of refusals.json is texts in, and both outputs and the status out.
 
-The line on standard output and the status are the program's; the words beside it were written down by hand from the texts. That each
-reason of the table has a row, and that both documents have the same table, is tested too.
+The line on standard output and the status of most rows are worked rows of the program. The words beside it were recorded and then read
+through one by one against the texts; what marks stand under, and what is advised for the C constructs of the guide, are tables that were
+written by hand. That each reason has a row, and that both documents have the same table, is tested too.
 """
 import json
 import os
@@ -109,7 +110,7 @@ class PassingThrough(unittest.TestCase):
             plain, through = self.program(words), subprocess.run([HKV, *words], cwd=EXAMPLES, capture_output=True)
             self.assertEqual((through.stdout, through.returncode), (plain.stdout, plain.returncode))
             said = [line for line in through.stderr.decode().splitlines() if not line.startswith(QUICK)]
-            self.assertEqual(said, [], 'nothing is said of a decided call')
+            self.assertEqual([line for line in said if ': error: ' in line or ': hint: ' in line], [], 'a decided call is no refusal')
 
     def test_a_full_output_is_the_write_fault(self):
         with open('/dev/full', 'w') as full:
