@@ -110,7 +110,7 @@ def fault_of(shown):
 
 def speak(words, status, shown, names):
     """Says in words what is refused; a lost standard error is no reason to stop."""
-    if status in DECIDED.get(words[0] if words else '', (0,)) or status > 128:
+    if status in DECIDED.get(words[0] if words else '', (0,)) or status > 128 or sys.stderr is None:
         return
     from launcher import refusal_words
     try:
