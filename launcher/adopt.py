@@ -1,8 +1,8 @@
 """The proved program that a run of `rt` left in crates/hkv/out: whether it is of these sources, and keeping it under their name.
 
 Only proved crates are built, so what stands there was proved, of the sources of its time. It is of the present ones where none of
-them has changed since: each source of a library before that library's folder out/rlib was last written, and each source, crates.txt
-and the kit before the program was. The times are those that the system sets at a change, so that files which a copy brought back
+them has changed since: no source of a library after that library's folder out/rlib was last written, and no source, crates.txt or
+the kit after the program was. The times are those that the system sets at a change, so that files which a copy brought back
 count as changed. Whatever this cannot show is left to `./hkv prove`.
 """
 import os
@@ -34,7 +34,7 @@ def is_current():
         return False
     for name in sources.crates():
         written = end if name == "hkv" else written_at(name)
-        if written is None or written > end or changed_at(name) >= written:
+        if written is None or changed_at(name) >= min(written, end):
             return False
     return True
 

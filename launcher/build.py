@@ -1,10 +1,8 @@
 """Builds the quick program: the program of these sources without their proofs, with run-time tests in.
 
-What comes in: the sources' name. What goes out: the words that run the program, and under .hkv/quick/NAME the program itself.
-`rt try` reads the sources and leaves the program as LLVM bitcode, module.bc, below its TMPDIR before it compiles it with a sanitizer. The
-file is hard-linked as soon as it appears. The link outlives that folder, and is whole once `rt try` has gone on to compile: its own
-output file appears beside the module. The kit's clang and linker then make a program of it: at -O0 for the first answer, and at -O2 in
-the background, which takes the first one's place.
+What comes in: the sources' name. What goes out: the words that run the program, and under .hkv/quick/NAME the program itself. The
+sources come as a module of LLVM bitcode (module.py), of which the kit's clang and linker make a program: at -O0 for the first answer,
+and at -O2 in the background (optimise.py), which takes the first one's place.
 """
 import errno
 import os
@@ -12,11 +10,10 @@ import stat
 import sys
 
 from launcher import kit, locks, work
+from launcher.module import MEGABYTES, Unlike, caught
 from launcher.places import PROGRAM_CRATE, TOP, kept
 from launcher.say import Fault, say
 
-# What a build takes at its most, measured: the module, the object and the program, and what `rt try` writes beside them.
-MEGABYTES = 260
 # The kit's own words for compiling a module (those of `rt try`, without its sanitizer).
 COMPILE = (
     "-march=x86-64 -mllvm -no-trap-after-noreturn -ffunction-sections -fdata-sections -mllvm -trap-unreachable "
@@ -29,10 +26,6 @@ KEEP = 2
 # Python as it runs this, without what a machine adds to it.
 PYTHON = (sys.executable, "-IS")
 STEPS = {"read": "reading the sources", "compile": "compiling", "optimise": "compiling once more, optimised"}
-
-
-class Unlike(Exception):
-    """The kit's inside is not as this module expects it."""
 
 
 def quick(now):
@@ -103,7 +96,7 @@ def built(now, home):
     work.room(MEGABYTES)
     try:
         with work.folder("build-") as room, work.told(STEPS, ("read", "compile")) as steps:
-            module = read_module(room, steps.step("read"))
+            module = caught(room, parts()["clang"], steps.step("read"))
             made = compiled(module, room, "-O0", steps.step("compile"))
             os.makedirs(home, exist_ok=True)
             os.replace(module, os.path.join(home, "module.bc"))
@@ -115,46 +108,6 @@ def built(now, home):
         return str(unlike)
     work.drop_old(kept("quick"), now.name, KEEP)
     return None
-
-
-def read_module(room, step):
-    """The program as one module of LLVM bitcode, which `rt try` leaves on its way."""
-    below, module = os.path.join(room, "try"), os.path.join(room, "module.bc")
-    os.mkdir(below)
-    words = ["rt", "try", "--", "verify", "tick.ll", "tick.py"]
-    try:
-        child = work.Child(words, cwd=PROGRAM_CRATE, env={**os.environ, "TMPDIR": below})
-    except FileNotFoundError:
-        raise Fault(kit.NO_RT) from None
-    with child:
-        while child.runs():
-            if not os.path.exists(module):
-                link_module(below, module)
-            elif goes_on(below):
-                break
-            step.tick()
-        ended = child.status
-    if os.path.exists(module):
-        return module
-    if ended is not None and b"\nrun=ended " in b"\n" + child.said():
-        raise Unlike("'rt try' left no module.bc where it was looked for")
-    raise child.fault("the program was not built", MEGABYTES)
-
-
-def link_module(below, module):
-    """Links the module, where it is there by now, to the name given."""
-    for folder, _, names in os.walk(below):
-        if "module.bc" in names:
-            try:
-                os.link(os.path.join(folder, "module.bc"), module)
-            except FileNotFoundError:
-                pass
-            return
-
-
-def goes_on(below):
-    """Whether the compiler that follows has begun, so that the module is whole."""
-    return any(name.endswith((".o", ".o.tmp")) for _, _, names in os.walk(below) for name in names)
 
 
 def compiled(module, room, level, step):

@@ -20,6 +20,7 @@ HELP = ("--help", "-h")
 MOST_CONFLICTS = 1_000_000
 MOST_JOBS = 1_000
 REFUSED = 3
+USAGE = 4
 REPORTED = (0, 1, 2, 7)
 PROGRAMS_OWN = (*OPTIONS, "lrat", "run", "bench")
 
@@ -67,7 +68,7 @@ def run(words):
 
         return calls.run(asked)
     except Misused as why:
-        return misused(command, str(why))
+        return misused(words, str(why))
 
 
 def shown(command):
@@ -152,7 +153,7 @@ def has_form(words):
 def answer(words):
     """The program's answer to words of its own, with a hint where they have no form; the exit status."""
     if not has_form(words):
-        return misused(words[0] if words else "", "")
+        return misused(words, "")
     from launcher import refusals
 
     status = refusals.run(words)
@@ -167,10 +168,12 @@ def answer(words):
     return status
 
 
-def misused(command, why):
-    """The program's usage line, and where to read on."""
-    status = program.run([]).returncode
-    if why:
-        say(why)
-    say(f"'hkv {command} --help' says which words it takes" if command in PROGRAMS_OWN else "'hkv --help' lists the commands")
+def misused(words, why):
+    """The program's usage line, and where to read on; the exit status."""
+    status = program.run([] if has_form(words) else words).returncode
+    if status == USAGE:
+        if why:
+            say(why)
+        known = words and words[0] in PROGRAMS_OWN
+        say(f"'hkv {words[0]} --help' says which words it takes" if known else "'hkv --help' lists the commands")
     return status

@@ -48,9 +48,9 @@ def prove(now):
 def library(name, progress):
     """Proves one library over those below it."""
     progress.begin(name)
-    log = followed(["rt", "lib"], os.path.join(CRATES, name), progress, name)
+    followed(["rt", "lib"], os.path.join(CRATES, name), progress, name)
     if not os.path.exists(stamp(name)):
-        raise Fault(f"{name} was not proved, and 'rt lib' does not say why: {log}")
+        raise Fault(f"'rt lib' left no stamp of {name}: its sources changed while it was proved. Run this again")
     progress.end(name)
 
 
@@ -63,16 +63,16 @@ def build(progress):
 def followed(words, folder, progress, name, is_well=None):
     """Runs a command of the kit to its end, and says on which crate it is; what it said goes to the log."""
     child = work.Child(words, cwd=folder)
-    with child:
-        while child.runs():
-            progress.tick()
-    said = child.said()
-    with open(kept("prove.log"), "ab") as log:
-        log.write(b"== %s\n%s" % (name.encode(), said))
-    if not (is_well(said) if is_well else child.status == 0):
+    try:
+        with child:
+            while child.runs():
+                progress.tick()
+    finally:
+        with open(kept("prove.log"), "ab") as log:
+            log.write(b"== %s\n%s" % (name.encode(), child.said()))
+    if not (is_well(child.said()) if is_well else child.status == 0):
         fault = child.fault(f"{name} was not proved. The last lines of {kept('prove.log')}:", megabytes_left())
         raise Fault(f"{fault}\n{ADVICE}")
-    return kept("prove.log")
 
 
 def stamp(name):

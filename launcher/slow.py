@@ -23,7 +23,11 @@ def main(words):
     """Runs the program on these words; its status."""
     flags, given, absolute = handed(words)
     command = ["rt", "try", "--seconds", SECONDS, *flags, "--", *given]
-    done = subprocess.run(command, cwd=PROGRAM_CRATE, stdin=subprocess.DEVNULL, stdout=subprocess.PIPE, stderr=subprocess.PIPE)
+    try:
+        done = subprocess.run(command, cwd=PROGRAM_CRATE, stdin=subprocess.DEVNULL, stdout=subprocess.PIPE, stderr=subprocess.PIPE)
+    except OSError as error:
+        say(f"'rt try' does not start: {error.strerror}")
+        return UNABLE
     ended = re.search(rb"(?m)^run=ended status=(\d+) ", done.stderr)
     if not ended:
         say("'rt try' gave no answer. The last that it said:")

@@ -163,8 +163,8 @@ class Child:
         if FULL in text:
             return full(megabytes)
         last = [f"  {line}" for line in text.splitlines() if line.strip()][-5:]
-        if self.status is not None and self.status < 0:
-            last.append(f"it was ended by signal {-self.status}: where memory is short, end other programs first, and run this again")
+        if self.status is not None and (self.status < 0 or "error" not in text):
+            last.append("it was cut off, it seems: where memory is short, end other programs first, and run this again")
         return Fault("\n".join([what, *last]))
 
 
