@@ -68,11 +68,11 @@ def run_through(words):
     return (status if written else after_write_fault(shown)), shown
 
 
-def put(piece):
-    """Writes to standard output as the program would; false where that fails."""
+def put(piece, where=1):
+    """Writes to standard output as the program would, or to standard error; false where that fails."""
     try:
         while piece:
-            piece = piece[os.write(1, piece):]
+            piece = piece[os.write(where, piece):]
         return True
     except OSError:
         return False
@@ -113,9 +113,5 @@ def speak(words, status, shown, names):
     if status in DECIDED.get(words[0] if words else '', (0,)) or status > 128:
         return
     from launcher import refusal_words
-    try:
-        lines = refusal_words.told(words, status, shown, names)
-        sys.stderr.write(''.join(line + '\n' for line in lines))
-        sys.stderr.flush()
-    except OSError:
-        pass
+    lines = refusal_words.told(words, status, shown, names)
+    put(''.join(line + '\n' for line in lines).encode(errors='backslashreplace'), 2)

@@ -125,6 +125,11 @@ class PassingThrough(unittest.TestCase):
         self.assertEqual(done.returncode, 3)
         self.assertIn('error: K10: a loop', done.stderr)
 
+    def test_a_lost_standard_error_changes_no_status(self):
+        for to in ('2>&-', '2>/dev/full'):
+            done = subprocess.run(f'"{HKV}" verify profile/loop.ll profile/nothing.py {to}', shell=True, cwd=EXAMPLES, stdout=subprocess.PIPE)
+            self.assertEqual((done.stdout, done.returncode), (b'kernel 9: K10\n', 3), to)
+
     def test_a_closed_pipe_ends_the_call(self):
         read, write = os.pipe()
         os.close(read)

@@ -8,7 +8,7 @@ import ast
 import itertools
 import re
 
-from launcher.spec_text import is_call
+from launcher.spec_text import is_call, parse
 
 PLACE = 'hkv_'
 
@@ -157,7 +157,7 @@ def is_false_in_state(ask, spec, function, text, state):
 def sorts_and_constants(spec):
     """The sorts and constants of a specification, each on its line."""
     kept = []
-    for node in ast.parse(top_lines(spec).replace('\r', '')).body:
+    for node in parse(top_lines(spec)).body:
         if isinstance(node, ast.Assign) and not is_call(node.value, 'Hook'):
             kept.append(ast.unparse(node))
     return '\n'.join(kept)

@@ -29,7 +29,8 @@ class Leaf:
 
 
 def shown(value, width, ctype=None):
-    """A number as C would have it: the name of an enumerator, a sign, else decimal, with hexadecimal beside a large one."""
+    """A number as C would have it: the name of an enumerator, a sign, else decimal, with the sign of one that is just below zero, or
+    hexadecimal, beside it."""
     if value is None:
         return 'none'
     kind = ctype.kind if ctype else 'unsigned'
@@ -40,7 +41,7 @@ def shown(value, width, ctype=None):
             return f'{name} ({value})'
     if kind == 'signed':
         return str(signed)
-    if width > 1 and signed < 0 and signed >= -4096:
+    if width > 1 and -min(4096, 1 << width // 2 - 1) <= signed < 0:
         return f'{value} ({signed})'
     return f'{value} ({value:#x})' if value > 65535 else str(value)
 
