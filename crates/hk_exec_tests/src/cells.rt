@@ -3,40 +3,34 @@
 ghost use Rattle.std.specs.Prelude.{◌≡◌, ◌<◌, ◌≤◌, ℕ, length, IfOk};
 ghost use Rattle.hk_term.specs.Shape.{width};
 
-use crate::inputs::kernel_of;
-use crate::row_texts::{DUPLICATES, MIXED};
 use crate::told::cell_sizes;
 use hk_cells::CellReads;
-use hk_seq::Seq;
 use hk_simplify::{add, mul};
 use hk_symmem::InitialReads;
 use hk_term::{Node, TermId, Terms};
 use ir_kernel::Kernel;
 use std::alloc::{AllocError, Global};
-use std::test::Fail;
 
-/// The size of the cells of each object of a text.
-fn sizes_of(alloc: Global, text: &[u8]) -> Result<Seq<u32>, AllocError> {
-    if text.len() > 10_000 {
-        return Ok(Seq::new(alloc));
-    }
-    match kernel_of(alloc, text) {
-        Some(kernel) => {
-            let layout = kernel.layout();
-            let reads = CellReads::new(alloc, kernel.checked().module(), layout)?;
-            cell_sizes(alloc, layout, &reads)
+/// Numbers, with spaces between.
+fn words_of(alloc: Global, numbers: &[u32]) -> Result<String, AllocError> {
+    let mut text = String::new(alloc);
+    for number in numbers {
+        if !text.is_empty() {
+            text.push_str(" ")?;
         }
-        None => Ok(Seq::new(alloc)),
+        let word = format!(in alloc; "{number}")?;
+        text.push_str(word.as_str())?;
     }
+    Ok(text)
 }
 
-#[test]
-fn a_cell_divides_every_integer_and_its_place(rt: HostRuntime) -> Result<(), Fail> {
-    let duplicates = sizes_of(rt.alloc(), DUPLICATES)?;
-    assert!(rt; duplicates.as_slice() == [4, 4, 4].as_slice());
-    let mixed = sizes_of(rt.alloc(), MIXED)?;
-    assert!(rt; mixed.as_slice() == [1].as_slice());
-    Ok(())
+/// The size of the cells of each object of a kernel.
+pub fn sizes_answer(alloc: Global, kernel: &Kernel) -> Result<Option<String>, AllocError> {
+    let layout = kernel.layout();
+    let reads = CellReads::new(alloc, kernel.checked().module(), layout)?;
+    let sizes = cell_sizes(alloc, layout, &reads)?;
+    let words = words_of(alloc, sizes.as_slice())?;
+    Ok(Some(words))
 }
 
 /// A multiple of a variable.
@@ -79,28 +73,27 @@ fn entries(t: &Terms) -> u64 {
     count
 }
 
-/// How many entries are read by a read of a descriptor.
+/// How many entries are read by a read of a descriptor, which is 4 bytes of the object 1.
 #[tactic(auto, using(hk_symmem::proofs::SourceLaws::origins_count))]
-fn entries_of_a_descriptor(alloc: Global, kernel: &Kernel) -> Result<u64, AllocError> {
+fn entries_of_a_descriptor(alloc: Global, kernel: &Kernel) -> Result<Option<u64>, AllocError> {
     let layout = kernel.layout();
     if layout.objects() < 2 {
-        return Ok(0);
+        return Ok(None);
     }
     let reads = CellReads::new(alloc, kernel.checked().module(), layout)?;
     let mut t = Terms::new(alloc);
     let offset = descriptor(&mut t)?;
     reads.initial(alloc, &mut t, 1, offset, 4)?;
-    Ok(entries(&t))
+    Ok(Some(entries(&t)))
 }
 
-#[test]
-fn a_descriptor_is_one_entry(rt: HostRuntime) -> Result<(), Fail> {
-    let kernel = kernel_of(rt.alloc(), DUPLICATES);
-    assert!(rt; kernel.is_some());
-    if let Some(kernel) = kernel {
-        let count = entries_of_a_descriptor(rt.alloc(), &kernel);
-        drop(kernel);
-        assert_eq!(rt; count?, 1);
+/// The same as text.
+pub fn descriptor_answer(alloc: Global, kernel: &Kernel) -> Result<Option<String>, AllocError> {
+    match entries_of_a_descriptor(alloc, kernel)? {
+        Some(count) => {
+            let told = format!(in alloc; "{count}")?;
+            Ok(Some(told))
+        }
+        None => Ok(None),
     }
-    Ok(())
 }

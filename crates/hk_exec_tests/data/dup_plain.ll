@@ -1,50 +1,4 @@
-//! Kernels whose terms are tried under single valuations.
-
-/// A counter that sticks where its sum overflows.
-pub const MARKED: &[u8] = b"@ticks = global i8 0
-define void @tick() {
-  %v = load i8, ptr @ticks
-  %n = add nsw i8 %v, 1
-  store i8 %n, ptr @ticks
-  ret void
-}
-";
-
-/// A store on one branch, read behind the join.
-pub const PICKS: &[u8] = b"@a = global i8 0
-@b = global i8 0
-define void @pick(i1 noundef zeroext %c) {
-  br i1 %c, label %t, label %j
-t:
-  store i8 1, ptr @a
-  br label %j
-j:
-  %v = load i8, ptr @a
-  store i8 %v, ptr @b
-  ret void
-}
-";
-
-/// Two phis that exchange values on one edge alone.
-pub const SWAPS: &[u8] = b"@a = global i8 0
-@b = global i8 0
-define void @swap(i1 %c) {
-  %x = load i8, ptr @a
-  %y = load i8, ptr @b
-  br i1 %c, label %t, label %j
-t:
-  br label %j
-j:
-  %p = phi i8 [ %y, %t ], [ %x, %0 ]
-  %q = phi i8 [ %x, %t ], [ %y, %0 ]
-  store i8 %p, ptr @a
-  store i8 %q, ptr @b
-  ret void
-}
-";
-
-/// A descriptor is duplicated, by a test that lets a number through which is one too great.
-pub const DUPLICATES: &[u8] = b"%struct.proc = type { i32, [4 x i32] }
+%struct.proc = type { i32, [4 x i32] }
 @current = global i32 0, align 4
 @procs = global [4 x %struct.proc] zeroinitializer, align 16
 @file_refs = global [4 x i32] zeroinitializer, align 16
@@ -84,8 +38,3 @@ define i32 @sys_dup(i32 %0, i32 %1) {
   %28 = phi i32 [ 0, %19 ], [ -9, %14 ], [ -9, %7 ], [ -9, %2 ]
   ret i32 %28
 }
-";
-
-/// An integer of four bytes behind one of one byte.
-pub const MIXED: &[u8] = b"@mixed = global { i8, i32 } zeroinitializer, align 4
-";
