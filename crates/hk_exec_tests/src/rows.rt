@@ -39,11 +39,7 @@ fn answer(
 }
 
 /// What is printed of a line.
-pub fn told_row(
-    alloc: Global,
-    shelf: &mut FolderShelf,
-    row: &str,
-) -> Result<String, AllocError> {
+pub fn told_row(alloc: Global, shelf: &mut FolderShelf, row: &str) -> Result<String, AllocError> {
     if row.is_empty() || row.starts_with('#') {
         return String::from_str(alloc, row);
     }

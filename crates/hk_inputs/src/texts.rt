@@ -14,6 +14,9 @@ use spec_read::read_spec;
 use spec_tree::Spec;
 use std::alloc::Global;
 
+/// The most bytes of a text: 16 MiB.
+const LIMIT: usize = 16_777_216;
+
 /// A kernel and a specification that fits it.
 #[derive(Drop)]
 pub struct Inputs {
@@ -57,12 +60,12 @@ fn spec_for(alloc: Global, text: &[u8], kernel: &Kernel) -> Option<Spec>
     }
 }
 
-/// Reads both texts.
+/// Reads both texts; nothing where one is refused.
 pub fn read(alloc: Global, kernel: &[u8], spec: &[u8]) -> Option<Inputs>
     ensures sorted { IfSome result (λ inputs. IsWellSorted (view_spec inputs.spec)) }
     ensures fits { IfSome result (λ inputs. FitsModule (view_module inputs.kernel) (view_spec inputs.spec)) }
 {
-    if kernel.len() > 1_000_000 || spec.len() > 1_000_000 {
+    if kernel.len() > LIMIT || spec.len() > LIMIT {
         return None;
     }
     match kernel_of(alloc, kernel) {

@@ -1,4 +1,4 @@
-//! The texts of the rows, each under a name.
+//! Texts of rows, each under a name.
 
 use std::alloc::{AllocError, Global};
 

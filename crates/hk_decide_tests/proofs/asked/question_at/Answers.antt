@@ -1,7 +1,7 @@
 use Rattle.std.proofs.Common.{rules, ◌<◌, ◌∙◌, length}
 use Rattle.spec_tree.specs.View.{view_spec}
-use Rattle.hk_oblig_tests.proofs.Owing.{owed_at}
-use Rattle.hk_oblig_tests.proofs.asked.question_at.Goals as goal
+use Rattle.hk_inputs.proofs.Owing.{owed_at}
+use Rattle.hk_decide_tests.proofs.asked.question_at.Goals as goal
 
 pub question-requires-clause-owed : goal.question-requires-clause-owed
 question-requires-clause-owed c = λ t found.
