@@ -339,6 +339,18 @@ def prop_device(state):
     return ForAll([l, e, c], (LShR(state.leaf_entry(l, e), 10) == If(c == 0, BitVecVal(0x10000, 64), CLOCK)) ==
         And(state.device_parent(c) == l + 1, state.device_index(c) == e))
 
+# A table, a frame or a device page that is in some place knows an entry that there is.
+def prop_place(state):
+    m = Var(MiddleT)
+    l = Var(LeafT)
+    g = Var(FrameT)
+    c = Var(DeviceT)
+    return And(
+        ForAll([m], And(ULE(state.middle_parent(m), NPROC), ULT(state.middle_index(m), ROOTE))),
+        ForAll([l], And(ULE(state.leaf_parent(l), NMIDDLE), ULT(state.leaf_index(l), MIDDLEE))),
+        ForAll([g], And(ULE(state.frame_parent(g), NLEAF), ULT(state.frame_index(g), LEAFE))),
+        ForAll([c], And(ULE(state.device_parent(c), NLEAF), ULT(state.device_index(c), LEAFE))))
+
 # An entry of a root is empty or leads to a middle table, never to a page: nobody writes a table from outside the kernel.
 def prop_root_words(state):
     p = Var(PidT)
