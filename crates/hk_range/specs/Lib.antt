@@ -1,0 +1,4 @@
+pub mod Ranges
+pub mod Linear
+pub mod Answers
+pub mod Splits
