@@ -1,0 +1,4 @@
+mod Swapped
+mod Filled
+mod Spelled
+pub mod ArrivingLaws

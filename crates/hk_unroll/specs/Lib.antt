@@ -1,0 +1,7 @@
+pub mod Copies
+pub mod Arriving
+pub mod Registers
+pub mod Names
+pub mod Renaming
+pub mod Rebuilt
+pub mod Refusals
