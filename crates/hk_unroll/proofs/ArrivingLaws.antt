@@ -1,10 +1,12 @@
 -- How the edges that arrive at copies grow.
-use Rattle.std.proofs.Common.{◌≡◌, ◌≢◌, ℕ, ◌+◌, ◌<◌, ◌≤◌, ◌-◌, suc, Bool, true, false, ◌&&◌, ◌||◌, List, [], ◌∷◌, ◌++◌, length, get_or, set, map, take, refl, sym, ◌∙◌, ap, subst, arith, eqb, eqb-true, eqb-false, append_assoc, append-nil, length-set, get_or-set_same, get_or-set_other, take_more, replicate, length-replicate, get_or-replicate}
+use Rattle.std.proofs.Common.{◌≡◌, ◌≢◌, ℕ, ◌+◌, ◌<◌, ◌≤◌, ◌-◌, suc, Bool, true, false, ◌&&◌, ◌||◌, List, [], ◌∷◌, ◌++◌, length, get_or, set, map, take, refl, sym, ◌∙◌, ap, subst, arith, eqb, eqb-true, append_assoc, append-nil, length-set, get_or-set_same, get_or-set_other, replicate}
 use Rattle.std.specs.Prelude.{if◌then◌else◌, filter, flat_map, nat_le}
 use Rattle.std.proofs.lemmas.List.Elements.{filter-append}
 use Rattle.std.proofs.lemmas.List.Concat.{flat_map-append}
-use Rattle.std.proofs.lemmas.List.{map-append}
-use Rattle.hk_graph.specs.Walks.{targets_of}
+use Rattle.std.proofs.lemmas.Bool.{eqb-false}
+use Rattle.std.proofs.lemmas.List.{map-append, take_more, length-replicate, get_or-replicate}
+use Rattle.std.specs.List.{Contains}
+use Rattle.hk_graph.specs.Walks.{targets_of, HasEdge, AreWithin}
 use Rattle.hk_unroll.specs.declared.copies.BlockCopy.{BlockCopy}
 use Rattle.hk_unroll.specs.Copies.{led_to, is_copy, first_copy, is_some_copy, is_reached, arriving, arrivals, grown, layer_from, layer, layers_from}
 use Rattle.hk_unroll.specs.Arriving.{Layers, at_copy, AreSized, AreArrivals, Arrives, ArriveAll}
@@ -111,6 +113,18 @@ edge_more n from c targets i to start old new h e led all one = record {
       ∙ ap (λ x. at_copy start d ++ x) (sym (arriving_more from d targets i to h e));
   }
 
+pub led_within : (graph : List (List ℕ)) (from c : BlockCopy) (items : List ℕ) (i : ℕ) → AreWithin graph → items ≡ targets_of graph from.block → i < length items
+    → c ≡ led_to from (get_or items i 0) → c.block < length graph
+led_within graph from c items i within e h led =
+    let edge : HasEdge graph from.block (get_or items i 0) = let P : List ℕ → Type 0 = λ xs. Contains xs (get_or items i 0) in subst P e (i, h, refl) in
+    let place : c.block ≡ get_or items i 0 = ap (λ (c : BlockCopy). c.block) led in
+    subst (λ x. x < length graph) (sym place) (within from.block (get_or items i 0) edge)
+
+pub edge_next : (n : ℕ) (from c : BlockCopy) (items targets : List ℕ) (i : ℕ) (start old new : Layers) → items ≡ targets → i < length items → c ≡ led_to from (get_or items i 0)
+    → ArriveAll n from (take i targets) start old → Arrives n from c old new → ArriveAll n from (take (i + 1) targets) start new
+edge_next n from c items targets i start old new e h led all one =
+    edge_more n from c targets i (get_or items i 0) start old new (subst (λ (xs : List ℕ). i < length xs) e h) (ap (λ xs. get_or xs i 0) e) led all one
+
 pub all_edges : (n : ℕ) (from : BlockCopy) (targets : List ℕ) (i : ℕ) (old new : Layers) → take i targets ≡ targets → ArriveAll n from (take i targets) old new → ArriveAll n from targets old new
 all_edges n from targets i old new e all = let P : List ℕ → Type 0 = λ x. ArriveAll n from x old new in subst P e all
 
@@ -126,13 +140,13 @@ told_reached graph n c made layers h k a = ap (told c) (a.arrive c h k)
 
 pub grown_yes : (graph : List (List ℕ)) (n : ℕ) (c : BlockCopy) (made new : List BlockCopy) (layers : Layers) (b : Bool) → c.turns ≤ n → c.block < length graph
     → AreArrivals graph n made layers → b ≡ told c (at_copy layers c) → b ≡ true → new ≡ made ++ c ∷ [] → new ≡ grown graph made (c ∷ [])
-grown_yes graph n c made new layers b h k a is yes e =
-    e ∙ sym (ap (λ t. if t then made ++ c ∷ [] else made) (sym (told_reached graph n c made layers h k a) ∙ sym is ∙ yes))
+grown_yes graph n c made new layers b h k a is holds e =
+    e ∙ sym (ap (λ t. if t then made ++ c ∷ [] else made) (sym (told_reached graph n c made layers h k a) ∙ sym is ∙ holds))
 
 pub grown_no : (graph : List (List ℕ)) (n : ℕ) (c : BlockCopy) (made new : List BlockCopy) (layers : Layers) (b : Bool) → c.turns ≤ n → c.block < length graph
     → AreArrivals graph n made layers → b ≡ told c (at_copy layers c) → b ≡ false → new ≡ made → new ≡ grown graph made (c ∷ [])
-grown_no graph n c made new layers b h k a is none e =
-    e ∙ sym (ap (λ t. if t then made ++ c ∷ [] else made) (sym (told_reached graph n c made layers h k a) ∙ sym is ∙ none))
+grown_no graph n c made new layers b h k a is fails e =
+    e ∙ sym (ap (λ t. if t then made ++ c ∷ [] else made) (sym (told_reached graph n c made layers h k a) ∙ sym is ∙ fails))
 
 pub arrivals_more : (graph : List (List ℕ)) (n : ℕ) (c : BlockCopy) (made more : List BlockCopy) (old new : Layers) → more ≡ made ++ c ∷ [] → AreArrivals graph n made old
     → ArriveAll n c (targets_of graph c.block) old new → AreArrivals graph n more new

@@ -8,14 +8,14 @@ use Rattle.hk_unroll.specs.Names.{prefix, block_name, register_name, phi_name, e
 abbrev at : ℕ → ℕ → BlockCopy
 at turns block = record { turns = turns; block = block }
 
-some_block : block_name 0 (at 1 2) ≡ codes "/0:1:2"
-some_block = rw (decimal_digit 0 (lit< tt), decimal_digit 1 (lit< tt), decimal_digit 2 (lit< tt)) refl
+some_block : block_name 0 (at 1 2) ≡ codes ":1:2"
+some_block = rw (decimal_digit 1 (lit< tt), decimal_digit 2 (lit< tt)) refl
 
-some_register : register_name 0 1 2 ≡ codes "/0:1:r2"
-some_register = rw (decimal_digit 0 (lit< tt), decimal_digit 1 (lit< tt), decimal_digit 2 (lit< tt)) refl
+some_register : register_name 0 1 2 ≡ codes ":1:r2"
+some_register = rw (decimal_digit 1 (lit< tt), decimal_digit 2 (lit< tt)) refl
 
-some_phi : phi_name 0 (at 1 2) 3 ≡ codes "/0:1:2:r3"
-some_phi = rw (decimal_digit 0 (lit< tt), decimal_digit 1 (lit< tt), decimal_digit 2 (lit< tt), decimal_digit 3 (lit< tt)) refl
+some_phi : phi_name 0 (at 1 2) 3 ≡ codes ":1:2:r3"
+some_phi = rw (decimal_digit 1 (lit< tt), decimal_digit 2 (lit< tt), decimal_digit 3 (lit< tt)) refl
 
-some_end : end_name 7 ≡ codes "/7:e"
-some_end = rw (decimal_digit 7 (lit< tt)) refl
+some_end : end_name 2 ≡ codes "//:e"
+some_end = refl

@@ -1,5 +1,6 @@
 pub mod Copies
 pub mod Arriving
+pub mod Missing
 pub mod Registers
 pub mod Names
 pub mod Renaming

@@ -49,8 +49,11 @@ abbrev pub registers_of : FunctionView → List (List ℕ × Option Setting)
 registers_of f = parameters_of f.parameters ++ set_among 0 (blocks_of f)
 
 -- where a register is set: nowhere where it is a parameter, or none of the function
+abbrev pub entry_setting : List (List ℕ × Option Setting) → List ℕ → Option Setting
+entry_setting registers x = option_and_then (λ s. s) (entry_of x registers)
+
 abbrev pub setting_of : FunctionView → List ℕ → Option Setting
-setting_of f x = option_and_then (λ s. s) (entry_of x (registers_of f))
+setting_of f x = entry_setting (registers_of f) x
 
 -- the place of a register among them
 abbrev pub register_place : FunctionView → List ℕ → ℕ

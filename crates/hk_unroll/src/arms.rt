@@ -1,6 +1,6 @@
 //! The arms of phis against the edges to their blocks.
 
-use crate::edges::BlockIndex;
+use crate::index::NameIndex;
 use hk_graph::Graph;
 use ir_ast::{Block, IrType, Name, Op, Operand, TypeTable};
 use ir_typing::same_value;
@@ -39,12 +39,12 @@ struct Arm {
 /// The arms of a phi, by the blocks that they name and then in their order; arms of unknown blocks are left out.
 fn sorted_arms(
     alloc: Global,
-    index: &BlockIndex,
+    index: &NameIndex,
     arms: &[(Operand, Name)],
 ) -> Result<Vec<Arm>, AllocError> {
     let mut sorted = Vec::new(alloc);
     for (place, arm) in arms.iter().enumerate() {
-        if let Some(block) = index.get(&arm.1) {
+        if let Some(block) = index.place(&arm.1) {
             sorted.push(Arm { block, place })?;
         }
     }
@@ -100,7 +100,7 @@ fn arms_meet(
     alloc: Global,
     numbers: &mut TypeNumbers,
     types: &TypeTable,
-    index: &BlockIndex,
+    index: &NameIndex,
     sources: &[u32],
     op: &Op,
 ) -> Result<bool, AllocError> {
@@ -121,7 +121,7 @@ pub fn all_arms_meet(
     alloc: Global,
     numbers: &mut TypeNumbers,
     types: &TypeTable,
-    index: &BlockIndex,
+    index: &NameIndex,
     graph: &Graph,
     blocks: &[Block],
 ) -> Result<bool, AllocError> {

@@ -5,7 +5,7 @@
 //! path to its block does not leave the block that sets the register; those questions are gathered by that block, so that each is
 //! searched once.
 
-use crate::edges::BlockIndex;
+use crate::index::NameIndex;
 use crate::paths::missed;
 use crate::registers::{Registers, Setting};
 use crate::uses::{add_operand, add_used};
@@ -90,7 +90,7 @@ impl Asked {
 #[derive(Drop)]
 pub struct Known<'f> {
     pub blocks: &'f [Block],
-    pub index: &'f BlockIndex,
+    pub index: &'f NameIndex,
     pub registers: &'f Registers,
 }
 
@@ -101,7 +101,7 @@ fn ask_arm(
     asked: &mut Asked,
     arm: &(Operand, Name),
 ) -> Result<bool, AllocError> {
-    let Some(block) = known.index.get(&arm.1) else {
+    let Some(block) = known.index.place(&arm.1) else {
         return Ok(false);
     };
     let count = known.blocks[block as usize].instrs.items.len();
@@ -126,12 +126,12 @@ fn ask_arms(
 }
 
 /// Whether all blocks to which an instruction goes are known.
-fn knows_targets(index: &BlockIndex, op: &Op) -> bool {
+fn knows_targets(index: &NameIndex, op: &Op) -> bool {
     match op {
-        Op::Goto { target } => index.contains(target),
-        Op::Branch { yes, no, .. } => index.contains(yes) && index.contains(no),
+        Op::Goto { target } => index.place(target).is_some(),
+        Op::Branch { yes, no, .. } => index.place(yes).is_some() && index.place(no).is_some(),
         Op::Switch { default, cases, .. } => {
-            index.contains(default) && cases.items.iter().all(|case| index.contains(&case.1))
+            index.place(default).is_some() && cases.items.iter().all(|case| index.place(&case.1).is_some())
         }
         _ => true,
     }

@@ -12,6 +12,7 @@ mod edges;
 mod fault;
 mod functions;
 mod globals;
+mod index;
 mod loops;
 mod module;
 mod names;

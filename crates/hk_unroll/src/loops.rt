@@ -1,7 +1,7 @@
 //! A function with loops and what is known of it, and the names by which its copies know registers and blocks.
 
 use crate::copies::{BlockCopy, Copies, led_to};
-use crate::edges::BlockIndex;
+use crate::index::NameIndex;
 use crate::names::{block_name, end_name, phi_name, register_name};
 use crate::passed::Passed;
 use crate::registers::{Holding, Registers, Setting};
@@ -13,7 +13,7 @@ use std::alloc::{AllocError, Global};
 #[derive(Drop)]
 pub struct Loops<'m> {
     pub blocks: &'m [Block],
-    pub index: &'m BlockIndex,
+    pub index: &'m NameIndex,
     pub registers: &'m Registers,
     pub copies: &'m Copies,
     pub passed: &'m Passed,
@@ -117,7 +117,7 @@ impl<'m> Loops<'m> {
         from: BlockCopy,
         name: &Name,
     ) -> Result<Name, AllocError> {
-        match self.index.get(name) {
+        match self.index.place(name) {
             Some(to) => {
                 let copy = led_to(from, to);
                 if copy.turns <= self.most {

@@ -2,7 +2,8 @@
 
 use crate::arms::all_arms_meet;
 use crate::asked::{Known, is_unsound};
-use crate::edges::{BlockIndex, blocks_of, graph_of, index_of};
+use crate::edges::{blocks_of, edges_among};
+use crate::index::{NameIndex, index_blocks};
 use crate::fault::{UnrollFault, UnrollReason, UnrollStop};
 use crate::functions::copy_function;
 use crate::globals::{add_entry, copy_globals, copy_layout_text, copy_named, copy_ranges};
@@ -20,7 +21,7 @@ use std::alloc::{AllocError, Global};
 struct Looping<'m> {
     function: &'m Function,
     blocks: &'m [Block],
-    index: &'m BlockIndex,
+    index: &'m NameIndex,
     graph: &'m Graph,
     registers: &'m Registers,
 }
@@ -78,13 +79,13 @@ fn unrolled(
     if blocks.len() > u32::MAX as usize {
         return Err(UnrollStop::Memory);
     }
-    let index = index_of(alloc, blocks)?;
-    let graph = graph_of(alloc, &index, blocks)?;
+    let index = index_blocks(alloc, blocks)?;
+    let graph = edges_among(alloc, &index, blocks)?;
     let order = sort(alloc, &graph)?;
     if is_acyclic(&order) {
         return Ok(copy_function(alloc, function)?);
     }
-    let registers = registers_of(alloc, &function.parameters, blocks)?;
+    let registers = registers_of(alloc, &function.parameters.items, blocks)?;
     let looping = Looping {
         function,
         blocks,

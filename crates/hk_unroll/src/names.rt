@@ -1,31 +1,42 @@
 //! The names of what is new.
 //!
-//! A new name begins with `/d:`, d being the least number such that no name of the function begins so; then come the turns of the copy
-//! and the places of its block and of its register, in decimal. So new names are short, and differ from all others.
+//! A new name begins with a colon, or, where a name of the function begins so, with the fewest slashes and a colon with which none does;
+//! then come the turns of the copy and the places of its block and of its register, in decimal. So new names are short, and differ from
+//! all others.
 
 use crate::copies::BlockCopy;
+ghost use Rattle.std.specs.Prelude.{◌≡◌, ◌++◌, decimal, IfOk, OnOk};
+ghost use Rattle.hk_unroll.specs.Names as definition;
+
 use ir_ast::{Block, Name, ParameterList};
 use itoa::Buffer;
 use std::alloc::{AllocError, Global};
 
 /// Adds a number in decimal.
-fn add_number(bytes: &mut Vec<u8>, number: u32) -> Result<(), AllocError> {
+fn add_number(bytes: &mut Vec<u8>, number: u32) -> Result<(), AllocError>
+    ensures { OnOk result (bytes.new.items ≡ bytes.old.items ++ decimal number) }
+{
     let mut buffer = Buffer::new();
     bytes.extend_from_slice(buffer.format(number).as_bytes())?;
     Ok(())
 }
 
-/// `/d:`
-fn prefix(alloc: Global, fresh: u32) -> Result<Vec<u8>, AllocError> {
+/// So many slashes and a colon.
+fn prefix(alloc: Global, fresh: u32) -> Result<Vec<u8>, AllocError>
+    ensures { IfOk result (λ bytes. bytes.items ≡ definition.prefix fresh) }
+{
     let mut bytes = Vec::new(alloc);
-    bytes.push(b'/')?;
-    add_number(&mut bytes, fresh)?;
+    for _slash in 0..fresh {
+        bytes.push(b'/')?;
+    }
     bytes.push(b':')?;
     Ok(bytes)
 }
 
-/// `/d:K:B`, the name of a copy of a block behind one turn or more.
-pub fn block_name(alloc: Global, fresh: u32, copy: BlockCopy) -> Result<Name, AllocError> {
+/// `:K:B`, the name of a copy of a block behind one turn or more.
+pub fn block_name(alloc: Global, fresh: u32, copy: BlockCopy) -> Result<Name, AllocError>
+    ensures { IfOk result (λ name. name ≡ definition.block_name fresh copy) }
+{
     let mut bytes = prefix(alloc, fresh)?;
     add_number(&mut bytes, copy.turns)?;
     bytes.push(b':')?;
@@ -33,13 +44,15 @@ pub fn block_name(alloc: Global, fresh: u32, copy: BlockCopy) -> Result<Name, Al
     Ok(Name::new(bytes))
 }
 
-/// `/d:K:rR`, the name of a register that a copy of an instruction sets behind one turn or more.
+/// `:K:rR`, the name of a register that a copy of an instruction sets behind one turn or more.
 pub fn register_name(
     alloc: Global,
     fresh: u32,
     turns: u32,
     register: u32,
-) -> Result<Name, AllocError> {
+) -> Result<Name, AllocError>
+    ensures { IfOk result (λ name. name ≡ definition.register_name fresh turns register) }
+{
     let mut bytes = prefix(alloc, fresh)?;
     add_number(&mut bytes, turns)?;
     bytes.extend_from_slice(b":r")?;
@@ -47,13 +60,15 @@ pub fn register_name(
     Ok(Name::new(bytes))
 }
 
-/// `/d:K:B:rR`, the name of the phi that is added to a copy for a register.
+/// `:K:B:rR`, the name of the phi that is added to a copy for a register.
 pub fn phi_name(
     alloc: Global,
     fresh: u32,
     copy: BlockCopy,
     register: u32,
-) -> Result<Name, AllocError> {
+) -> Result<Name, AllocError>
+    ensures { IfOk result (λ name. name ≡ definition.phi_name fresh copy register) }
+{
     let mut bytes = prefix(alloc, fresh)?;
     add_number(&mut bytes, copy.turns)?;
     bytes.push(b':')?;
@@ -63,44 +78,31 @@ pub fn phi_name(
     Ok(Name::new(bytes))
 }
 
-/// `/d:e`, the name of the block to which a turn behind the last leads.
-pub fn end_name(alloc: Global, fresh: u32) -> Result<Name, AllocError> {
+/// `:e`, the name of the block to which a turn behind the last leads.
+pub fn end_name(alloc: Global, fresh: u32) -> Result<Name, AllocError>
+    ensures { IfOk result (λ name. name ≡ definition.end_name fresh) }
+{
     let mut bytes = prefix(alloc, fresh)?;
     bytes.push(b'e')?;
     Ok(Name::new(bytes))
 }
 
-/// The digits at the front of a text as a number, where they are at most nine, do not begin with a needless 0 and a `:` stands behind.
-fn number_before(text: &[u8]) -> Option<usize> {
-    let mut number: usize = 0;
-    for (place, byte) in text.iter().enumerate() {
-        match *byte {
-            b':' => {
-                return if place == 0 { None } else { Some(number) };
-            }
-            digit @ b'0'..=b'9' => {
-                if place >= 9 || (place == 1 && number == 0) {
-                    return None;
-                }
-                number = number * 10 + (digit - b'0') as usize;
-            }
-            _ => return None,
+/// With how many slashes and a colon a name begins, where it begins so.
+fn slashes(name: &[u8]) -> Option<usize> {
+    for (count, byte) in name.iter().enumerate() {
+        if *byte == b':' {
+            return Some(count);
+        }
+        if *byte != b'/' {
+            return None;
         }
     }
     None
 }
 
-/// The number d of a name that begins with `/d:`.
-fn taken_by(name: &Name) -> Option<usize> {
-    match name.as_bytes() {
-        [b'/', rest @ ..] => number_before(rest),
-        _ => None,
-    }
-}
-
 /// Marks the number that a name takes.
 fn mark(taken: &mut [bool], name: &Name) {
-    if let Some(number) = taken_by(name) {
+    if let Some(number) = slashes(name.as_bytes()) {
         if number < taken.len() {
             taken[number] = true;
         }
@@ -128,7 +130,7 @@ fn count_names(parameters: &ParameterList, blocks: &[Block]) -> usize {
     count
 }
 
-/// The least number d such that no name of the function begins with `/d:`.
+/// The least number such that no name of the function begins with so many slashes and a colon.
 pub fn fresh_number(
     alloc: Global,
     parameters: &ParameterList,

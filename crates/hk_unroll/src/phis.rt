@@ -18,7 +18,7 @@ fn first_arms(
 ) -> Result<Vec<Option<usize>>, AllocError> {
     let mut firsts = vec![in alloc; None; loops.blocks.len()]?;
     for (place, arm) in arms.iter().enumerate() {
-        if let Some(block) = loops.index.get(&arm.1) {
+        if let Some(block) = loops.index.place(&arm.1) {
             let block = block as usize;
             if block < firsts.len() && firsts[block].is_none() {
                 firsts[block] = Some(place);

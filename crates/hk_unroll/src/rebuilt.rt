@@ -2,7 +2,7 @@
 
 use crate::acts::copied_op;
 use crate::copies::{BlockCopy, Copies, led_to};
-use crate::edges::BlockIndex;
+use crate::index::NameIndex;
 use crate::loops::{Loops, Spot};
 use crate::names::{end_name, fresh_number};
 use crate::naming::Naming;
@@ -124,7 +124,7 @@ pub fn rebuilt(
     alloc: Global,
     function: &Function,
     blocks: &[Block],
-    index: &BlockIndex,
+    index: &NameIndex,
     graph: &Graph,
     registers: &Registers,
     most: u32,

@@ -1,6 +1,11 @@
 //! The registers of a function by name, and where each is set.
 
-use ir_ast::{Block, Instr, Name, Op, ParameterList, Table, TableFault};
+ghost use Rattle.std.specs.Prelude.{◌≡◌, ◌<◌, ◌^◌, ◌++◌, ◌∷◌, [], length, map, IfOk, OnOk};
+ghost use Rattle.ir_ast.specs.ProgramView.{view_op, view_instr, view_block};
+ghost use Rattle.hk_unroll.specs.Registers as definition;
+ghost use Rattle.hk_unroll.specs.Registers.{set_at, set_in, set_among, parameters_of, entry_setting};
+
+use ir_ast::{Block, Instr, IrType, Name, Op, Table, TableFault};
 use ir_typing::is_overflow;
 use std::alloc::{AllocError, Global};
 
@@ -28,16 +33,12 @@ pub struct Setting {
 pub type Registers = Table<Option<Setting>>;
 
 /// What the register holds that an instruction sets, where it may set one.
-pub fn holding_of(op: &Op) -> Option<Holding> {
+pub fn holding_of(op: &Op) -> Option<Holding>
+    ensures { result ≡ definition.holding_of (view_op op.now) }
+{
     match op {
         Op::Slot { .. } => Some(Holding::Slot),
-        Op::Call { callee, .. } => {
-            if is_overflow(callee) {
-                Some(Holding::Pair)
-            } else {
-                Some(Holding::Value)
-            }
-        }
+        Op::Call { callee, .. } if is_overflow(callee) => Some(Holding::Pair),
         Op::Store { .. }
         | Op::Goto { .. }
         | Op::Branch { .. }
@@ -54,7 +55,9 @@ fn add(
     registers: &mut Registers,
     name: &Name,
     setting: Option<Setting>,
-) -> Result<(), AllocError> {
+) -> Result<(), AllocError>
+    ensures { OnOk result (registers.new ≡ registers.old ++ (name.now, setting) ∷ []) }
+{
     let copy = name.copy(alloc)?;
     match registers.add(copy, setting) {
         Ok(()) => Ok(()),
@@ -70,7 +73,9 @@ fn add_instr(
     block: u32,
     place: usize,
     instr: &Instr,
-) -> Result<(), AllocError> {
+) -> Result<(), AllocError>
+    ensures { OnOk result (registers.new ≡ registers.old ++ set_at block place (view_instr instr.now)) }
+{
     let Some(name) = &instr.result else {
         return Ok(());
     };
@@ -94,31 +99,65 @@ fn add_instrs(
     registers: &mut Registers,
     block: u32,
     instrs: &[Instr],
-) -> Result<(), AllocError> {
+) -> Result<(), AllocError>
+    ensures { OnOk result (registers.new ≡ registers.old ++ set_in block 0 (map view_instr instrs.now)) }
+{
     for (place, instr) in instrs.iter().enumerate() {
         add_instr(alloc, registers, block, place, instr)?;
     }
     Ok(())
 }
 
-/// The registers of a function with these parameters and blocks.
+/// Adds parameters.
+fn add_parameters(
+    alloc: Global,
+    registers: &mut Registers,
+    parameters: &[(IrType, Name)],
+) -> Result<(), AllocError>
+    ensures { OnOk result (registers.new ≡ registers.old ++ parameters_of parameters.now) }
+{
+    for parameter in parameters {
+        add(alloc, registers, &parameter.1, None)?;
+    }
+    Ok(())
+}
+
+/// Adds the registers that the instructions of blocks set.
+fn add_blocks(
+    alloc: Global,
+    registers: &mut Registers,
+    blocks: &[Block],
+) -> Result<(), AllocError>
+    requires { length blocks.now < 2 ^ 32 }
+    ensures { OnOk result (registers.new ≡ registers.old ++ set_among 0 (map view_block blocks.now)) }
+{
+    for (place, block) in blocks.iter().enumerate() {
+        add_instrs(alloc, registers, place as u32, &block.instrs.items)?;
+    }
+    Ok(())
+}
+
+/// The registers of a function with these parameters and blocks, in time n log n.
 pub fn registers_of(
     alloc: Global,
-    parameters: &ParameterList,
+    parameters: &[(IrType, Name)],
     blocks: &[Block],
-) -> Result<Registers, AllocError> {
+) -> Result<Registers, AllocError>
+    requires { length blocks.now < 2 ^ 32 }
+    ensures { IfOk result (λ r. r ≡ parameters_of parameters.now ++ set_among 0 (map view_block blocks.now)) }
+{
     let mut registers = Table::new(alloc);
-    for parameter in &parameters.items {
-        add(alloc, &mut registers, &parameter.1, None)?;
-    }
-    for (place, block) in blocks.iter().enumerate() {
-        add_instrs(alloc, &mut registers, place as u32, &block.instrs.items)?;
-    }
+    add_parameters(alloc, &mut registers, parameters)?;
+    add_blocks(alloc, &mut registers, blocks)?;
     Ok(registers)
 }
 
 /// Where a register is set: nowhere where it is a parameter, or none of the function.
-pub fn setting_of(registers: &Registers, name: &Name) -> Option<Setting> {
+#[tactic(auto, using(crate::proofs::RegisterLaws::found_setting, crate::proofs::RegisterLaws::no_setting))]
+pub fn setting_of(registers: &Registers, name: &Name) -> Option<Setting>
+    requires { length registers.now < 2 ^ 32 }
+    ensures { result ≡ entry_setting registers.now name.now }
+{
     match registers.get(name) {
         Some(place) => *registers.at(place),
         None => None,

@@ -1,7 +1,7 @@
 //! X2 and X3: an edge to the first block, a slot or a pair that stands or is used where a copy cannot have it, and copies that are too
 //! many.
 
-use crate::edges::BlockIndex;
+use crate::index::NameIndex;
 use crate::registers::{Holding, Registers, setting_of};
 use crate::uses::{add_operand, add_used};
 use hk_graph::Graph;
@@ -36,11 +36,11 @@ fn is_stray(registers: &Registers, block: u32, names: &[&Name]) -> bool {
 /// Whether the arm of a phi uses a pair that another block sets than the one that the arm names.
 fn is_stray_arm(
     alloc: Global,
-    index: &BlockIndex,
+    index: &NameIndex,
     registers: &Registers,
     arm: &(Operand, Name),
 ) -> Result<bool, AllocError> {
-    let Some(block) = index.get(&arm.1) else {
+    let Some(block) = index.place(&arm.1) else {
         return Ok(false);
     };
     let mut names = Vec::new(alloc);
@@ -51,7 +51,7 @@ fn is_stray_arm(
 /// Whether an instruction of the block at a place is a slot outside the first block, or uses a pair that another block sets.
 fn strays(
     alloc: Global,
-    index: &BlockIndex,
+    index: &NameIndex,
     registers: &Registers,
     block: u32,
     op: &Op,
@@ -77,7 +77,7 @@ fn strays(
 /// Whether a slot stands outside the first block, or a pair is used outside its block.
 fn has_stray(
     alloc: Global,
-    index: &BlockIndex,
+    index: &NameIndex,
     registers: &Registers,
     blocks: &[Block],
 ) -> Result<bool, AllocError> {
@@ -94,7 +94,7 @@ fn has_stray(
 /// Whether X2 holds of these blocks.
 pub fn is_unfit(
     alloc: Global,
-    index: &BlockIndex,
+    index: &NameIndex,
     graph: &Graph,
     registers: &Registers,
     blocks: &[Block],

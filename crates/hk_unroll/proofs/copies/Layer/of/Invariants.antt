@@ -1,5 +1,5 @@
 use Rattle.std.proofs.Common.{◌≡◌, [], replicate}
 use Rattle.hk_unroll.proofs.copies.Layer.of.Given as goal
 
-abbrev pub invariant-loop-_block : goal.invariant-loop-_block
-invariant-loop-_block l = l.rows.items ≡ replicate l._block []
+abbrev pub invariant-loop-block : goal.invariant-loop-block
+invariant-loop-block l = l.rows.items ≡ replicate l.block []
