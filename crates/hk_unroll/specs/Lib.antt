@@ -1,6 +1,7 @@
 pub mod Copies
 pub mod Arriving
 pub mod Missing
+pub mod Passing
 pub mod Registers
 pub mod Names
 pub mod Renaming

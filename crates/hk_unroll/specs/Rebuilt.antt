@@ -15,6 +15,7 @@ use Rattle.hk_unroll.specs.declared.registers.Setting.{Setting}
 use Rattle.hk_unroll.specs.Copies.{HasCycle, led_to, arrivals, copies_of}
 use Rattle.hk_unroll.specs.Registers.{registers_of, setting_of, register_place, type_of}
 use Rattle.hk_unroll.specs.Names.{names_of, fresh, block_name, register_name, phi_name, end_name}
+use Rattle.hk_unroll.specs.Missing.{Tells}
 use Rattle.hk_unroll.specs.Renaming.{renamed, readdressed}
 
 -- a function with loops, how many turns are taken at most, a number that begins no name, and the test which blocks, by their places,
@@ -166,18 +167,15 @@ rebuilt_blocks l = flat_map (copied_block l) (made l) ++ end_blocks l
 abbrev pub rebuilt : Loops → FunctionView
 rebuilt l = record l.function { body = Some (rebuilt_blocks l) }
 
--- the test says which blocks every path from the first block to a block leaves
-abbrev pub Tells : Bool → Type 0 → Type 0
-Tells true P = P
-Tells false P = P → ⊥
-
-abbrev pub TellsPassed : List (List ℕ) → (ℕ → ℕ → Bool) → Type 0
-TellsPassed graph is_passed = (by to : ℕ) → by < length graph → to < length graph → Tells (is_passed by to) (IsPassed graph by to)
+-- the test says of each block that sets a register which blocks no path from the first block reaches without leaving it
+abbrev pub TellsPassed : FunctionView → (ℕ → ℕ → Bool) → Type 0
+TellsPassed f is_passed =
+    (x : List ℕ) (s : Setting) (to : ℕ) → Contains (registers_of f) (x, Some s) → to < length (blocks_of f) → Tells (is_passed s.block to) (IsPassed (block_graph f) s.block to)
 
 -- the function is rebuilt, within so many turns
 abbrev pub IsRebuilt : ℕ → FunctionView → FunctionView → Type 0
 IsRebuilt n f g =
-    (is_passed : ℕ → ℕ → Bool) × TellsPassed (block_graph f) is_passed
+    (is_passed : ℕ → ℕ → Bool) × TellsPassed f is_passed
     × (g ≡ rebuilt (record { function = f; most = n; fresh = fresh (names_of f); is_passed = is_passed }))
 
 -- a function without a cycle is left as it is

@@ -5,13 +5,14 @@ use crate::index::NameIndex;
 use crate::names::{block_name, end_name, phi_name, register_name};
 use crate::passed::Passed;
 use crate::registers::{Holding, Registers, Setting};
-use ir_ast::{Block, Name};
+use ir_ast::{Block, Function, Name};
 use std::alloc::{AllocError, Global};
 
 /// A function with loops: its blocks and registers by name, the copies that are made, which blocks lie on every path to which, a number
 /// that begins no name, and how many turns are taken at most.
 #[derive(Drop)]
 pub struct Loops<'m> {
+    pub function: &'m Function,
     pub blocks: &'m [Block],
     pub index: &'m NameIndex,
     pub registers: &'m Registers,

@@ -133,6 +133,7 @@ pub fn rebuilt(
     let passed = Passed::of(alloc, graph, blocks)?;
     let fresh = fresh_number(alloc, &function.parameters, blocks)?;
     let loops = Loops {
+        function,
         blocks,
         index,
         registers,
