@@ -1,7 +1,7 @@
 -- How the edges that arrive at copies grow.
 use Rattle.std.proofs.Common.{◌≡◌, ◌≢◌, ℕ, ◌+◌, ◌<◌, ◌≤◌, ◌-◌, suc, Bool, true, false, ◌&&◌, ◌||◌, List, [], ◌∷◌, ◌++◌, length, get_or, set, map, take, refl, sym, ◌∙◌, ap, subst, arith, eqb, eqb-true, append_assoc, append-nil, length-set, get_or-set_same, get_or-set_other, replicate}
 use Rattle.std.specs.Prelude.{if◌then◌else◌, filter, flat_map, nat_le}
-use Rattle.std.proofs.lemmas.List.Elements.{filter-append}
+use Rattle.std.proofs.lemmas.List.Elements.{filter-append, Contains-get_or}
 use Rattle.std.proofs.lemmas.List.Concat.{flat_map-append}
 use Rattle.std.proofs.lemmas.Bool.{eqb-false}
 use Rattle.std.proofs.lemmas.List.{map-append, take_more, length-replicate, get_or-replicate}
@@ -116,7 +116,7 @@ edge_more n from c targets i to start old new h e led all one = record {
 pub led_within : (graph : List (List ℕ)) (from c : BlockCopy) (items : List ℕ) (i : ℕ) → AreWithin graph → items ≡ targets_of graph from.block → i < length items
     → c ≡ led_to from (get_or items i 0) → c.block < length graph
 led_within graph from c items i within e h led =
-    let edge : HasEdge graph from.block (get_or items i 0) = let P : List ℕ → Type 0 = λ xs. Contains xs (get_or items i 0) in subst P e (i, h, refl) in
+    let edge : HasEdge graph from.block (get_or items i 0) = let P : List ℕ → Type 0 = λ xs. Contains xs (get_or items i 0) in subst P e (Contains-get_or items i 0 h) in
     let place : c.block ≡ get_or items i 0 = ap (λ (c : BlockCopy). c.block) led in
     subst (λ x. x < length graph) (sym place) (within from.block (get_or items i 0) edge)
 

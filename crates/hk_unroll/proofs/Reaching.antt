@@ -49,14 +49,19 @@ has_copy (y ∷ xs) x c = refl
 
 filtered : (p : ℕ → Bool) (xs : List ℕ) (x : ℕ) → Contains (filter p xs) x → Contains xs x × (p x ≡ true)
 filtered p [] x (k, l, e) = absurd (omega (arith, l))
-filtered p (y ∷ xs) x c = pick (p y) refl c
+filtered p (y ∷ xs) x c = pick (p y) refl (λ d. filtered p xs x d) c
   where
-    head : (p y ≡ true) → Contains (y ∷ filter p xs) x → Contains (y ∷ xs) x × (p x ≡ true)
-    head holds (zero, l, e) = ((0, omega arith, e), ap p (sym e) ∙ holds)
-    head holds (suc k, l, e) = let rest : Contains xs x × (p x ≡ true) = filtered p xs x (k, omega (arith, l), e) in (Contains-append_right (y ∷ []) xs x rest.0, rest.1)
-    pick : (t : Bool) → p y ≡ t → Contains (if t then y ∷ filter p xs else filter p xs) x → Contains (y ∷ xs) x × (p x ≡ true)
-    pick true e d = head e d
-    pick false e d = let rest : Contains xs x × (p x ≡ true) = filtered p xs x d in (Contains-append_right (y ∷ []) xs x rest.0, rest.1)
+    later : Contains xs x × (p x ≡ true) → Contains (y ∷ xs) x × (p x ≡ true)
+    later r = (Contains-append_right (y ∷ []) xs x r.0, r.1)
+    head : (p y ≡ true) → (Contains (filter p xs) x → Contains xs x × (p x ≡ true)) → Contains (y ∷ filter p xs) x → Contains (y ∷ xs) x × (p x ≡ true)
+    head holds rest (zero, l, e) = ((0, omega arith, e), ap p (sym e) ∙ holds)
+    head holds rest (suc k, l, e) = later (rest (k, omega (arith, l), e))
+    pick : (t : Bool) → p y ≡ t → (Contains (filter p xs) x → Contains xs x × (p x ≡ true)) → Contains (if t then y ∷ filter p xs else filter p xs) x → Contains (y ∷ xs) x × (p x ≡ true)
+    pick true e rest d = head e rest d
+    pick false e rest d = later (rest d)
+
+differ : false ≡ true → ⊥
+differ e = absurd (cc)
 
 kept_by : (p : ℕ → Bool) (xs : List ℕ) (x : ℕ) → Contains xs x → p x ≡ true → Contains (filter p xs) x
 kept_by p [] x (k, l, e) holds = absurd (omega (arith, l))
@@ -65,16 +70,11 @@ kept_by p (y ∷ xs) x (zero, l, e) holds = pick (p y) refl
     pick : (t : Bool) → p y ≡ t → Contains (if t then y ∷ filter p xs else filter p xs) x
     pick true f = (0, omega arith, e)
     pick false f = absurd (differ (sym f ∙ ap p e ∙ holds))
-      where
-        differ : false ≡ true → ⊥
-        differ g = absurd (cc)
-kept_by p (y ∷ xs) x (suc k, l, e) holds = pick (p y) refl
+kept_by p (y ∷ xs) x (suc k, l, e) holds = pick (p y) (kept_by p xs x (k, omega (arith, l), e) holds)
   where
-    rest : Contains (filter p xs) x
-    rest = kept_by p xs x (k, omega (arith, l), e) holds
-    pick : (t : Bool) → p y ≡ t → Contains (if t then y ∷ filter p xs else filter p xs) x
-    pick true f = Contains-append_right (y ∷ []) (filter p xs) x rest
-    pick false f = rest
+    pick : (t : Bool) → Contains (filter p xs) x → Contains (if t then y ∷ filter p xs else filter p xs) x
+    pick true rest = Contains-append_right (y ∷ []) (filter p xs) x rest
+    pick false rest = rest
 
 module _ (graph : List (List ℕ)) (n : ℕ) where
   -- ---- what is made is reached
@@ -99,47 +99,49 @@ module _ (graph : List (List ℕ)) (n : ℕ) where
   all_reached : (made cs : List BlockCopy) → ((d : BlockCopy) → Contains made d → IsReached graph n d) → ((d : BlockCopy) → Contains cs d → d.turns ≤ n)
       → (d : BlockCopy) → Contains (grown graph made cs) d → IsReached graph n d
   all_reached made [] all within d c = all d c
-  all_reached made (e ∷ cs) all within d c = pick (is_reached graph made e) refl c
+  all_reached made (e ∷ cs) all within d c =
+      pick (is_reached graph made e) refl (λ h k. all_reached (made ++ e ∷ []) cs h (λ f g. later f g) d k) (λ k. all_reached made cs all (λ f g. later f g) d k) c
     where
-      later : (d : BlockCopy) → Contains cs d → d.turns ≤ n
-      later d k = within d (Contains-append_right (e ∷ []) cs d k)
-      pick : (t : Bool) → is_reached graph made e ≡ t → Contains (grown graph (if t then made ++ e ∷ [] else made) cs) d → IsReached graph n d
-      pick true holds k = all_reached (made ++ e ∷ []) cs (λ f g. more f (Contains-push_cases made e f g)) later d k
-        where
-          here : IsReached graph n e
-          here = one_reached made e all (within e (0, omega arith, refl)) holds
-          more : (f : BlockCopy) → Contains made f ⊎ (e ≡ f) → IsReached graph n f
-          more f (inl g) = all f g
-          more f (inr same) = subst (IsReached graph n) same here
-      pick false fails k = all_reached made cs all later d k
+      later : (f : BlockCopy) → Contains cs f → f.turns ≤ n
+      later f k = within f (Contains-append_right (e ∷ []) cs f k)
+      more : IsReached graph n e → (f : BlockCopy) → Contains made f ⊎ (e ≡ f) → IsReached graph n f
+      more here f (inl g) = all f g
+      more here f (inr same) = let P : BlockCopy → Type 0 = λ x. IsReached graph n x in subst P same here
+      pick : (t : Bool) → is_reached graph made e ≡ t
+          → (((f : BlockCopy) → Contains (made ++ e ∷ []) f → IsReached graph n f) → Contains (grown graph (made ++ e ∷ []) cs) d → IsReached graph n d)
+          → (Contains (grown graph made cs) d → IsReached graph n d)
+          → Contains (grown graph (if t then made ++ e ∷ [] else made) cs) d → IsReached graph n d
+      pick true holds with_it without k = with_it (λ f g. more (one_reached made e all (within e (0, omega arith, refl)) holds) f (Contains-push_cases made e f g)) k
+      pick false fails with_it without k = without k
 
   -- ---- what is reached is made
 
   grown_keeps : (made cs : List BlockCopy) (d : BlockCopy) → Contains made d → Contains (grown graph made cs) d
   grown_keeps made [] d c = c
-  grown_keeps made (e ∷ cs) d c = pick (is_reached graph made e)
+  grown_keeps made (e ∷ cs) d c = pick (is_reached graph made e) (grown_keeps (made ++ e ∷ []) cs d (Contains-append_left made (e ∷ []) d c)) (grown_keeps made cs d c)
     where
-      pick : (t : Bool) → Contains (grown graph (if t then made ++ e ∷ [] else made) cs) d
-      pick true = grown_keeps (made ++ e ∷ []) cs d (Contains-append_left made (e ∷ []) d c)
-      pick false = grown_keeps made cs d c
+      pick : (t : Bool) → Contains (grown graph (made ++ e ∷ []) cs) d → Contains (grown graph made cs) d → Contains (grown graph (if t then made ++ e ∷ [] else made) cs) d
+      pick true a b = a
+      pick false a b = b
 
   grown_from : (made cs : List BlockCopy) (d : BlockCopy) → Contains (grown graph made cs) d → Contains made d ⊎ Contains cs d
   grown_from made [] d c = inl c
-  grown_from made (e ∷ cs) d c = pick (is_reached graph made e) c
+  grown_from made (e ∷ cs) d c = pick (is_reached graph made e) (λ k. grown_from (made ++ e ∷ []) cs d k) (λ k. grown_from made cs d k) c
     where
+      first : Contains made d ⊎ (e ≡ d) → Contains made d ⊎ Contains (e ∷ cs) d
+      first (inl g) = inl g
+      first (inr same) = inr (0, omega arith, same)
       later : Contains made d ⊎ Contains cs d → Contains made d ⊎ Contains (e ∷ cs) d
       later (inl k) = inl k
       later (inr k) = inr (Contains-append_right (e ∷ []) cs d k)
       pushed : Contains (made ++ e ∷ []) d ⊎ Contains cs d → Contains made d ⊎ Contains (e ∷ cs) d
       pushed (inl k) = first (Contains-push_cases made e d k)
-        where
-          first : Contains made d ⊎ (e ≡ d) → Contains made d ⊎ Contains (e ∷ cs) d
-          first (inl g) = inl g
-          first (inr same) = inr (0, omega arith, same)
       pushed (inr k) = inr (Contains-append_right (e ∷ []) cs d k)
-      pick : (t : Bool) → Contains (grown graph (if t then made ++ e ∷ [] else made) cs) d → Contains made d ⊎ Contains (e ∷ cs) d
-      pick true k = pushed (grown_from (made ++ e ∷ []) cs d k)
-      pick false k = later (grown_from made cs d k)
+      pick : (t : Bool) → (Contains (grown graph (made ++ e ∷ []) cs) d → Contains (made ++ e ∷ []) d ⊎ Contains cs d)
+          → (Contains (grown graph made cs) d → Contains made d ⊎ Contains cs d)
+          → Contains (grown graph (if t then made ++ e ∷ [] else made) cs) d → Contains made d ⊎ Contains (e ∷ cs) d
+      pick true with_it without k = pushed (with_it k)
+      pick false with_it without k = later (without k)
 
   grown_parts : (made cs ds : List BlockCopy) → grown graph made (cs ++ ds) ≡ grown graph (grown graph made cs) ds
   grown_parts made [] ds = refl

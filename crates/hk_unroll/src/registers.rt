@@ -153,7 +153,7 @@ pub fn registers_of(
 }
 
 /// Where a register is set: nowhere where it is a parameter, or none of the function.
-#[tactic(auto, using(crate::proofs::RegisterLaws::found_setting, crate::proofs::RegisterLaws::no_setting))]
+#[tactic(auto, using(crate::proofs::RegisterLaws::no_setting))]
 pub fn setting_of(registers: &Registers, name: &Name) -> Option<Setting>
     requires { length registers.now < 2 ^ 32 }
     ensures { result ≡ entry_setting registers.now name.now }
