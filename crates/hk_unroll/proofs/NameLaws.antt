@@ -4,7 +4,7 @@ use Rattle.std.specs.Prelude.{decimal}
 use Rattle.std.proofs.lemmas.List.{append_cancel_left}
 use Rattle.std.proofs.lemmas.Fmt.{decimal_by_steps, decimal_injective}
 use Rattle.hk_unroll.specs.declared.copies.BlockCopy.{BlockCopy}
-use Rattle.hk_unroll.specs.Names.{prefix, block_name, register_name, phi_name, end_name}
+use Rattle.hk_unroll.specs.Names.{prefix, block_name, register_name, phi_name, end_name, IsShort}
 
 pub slashes_and_colon : (d : ℕ) → replicate d 47 ++ 58 ∷ [] ≡ prefix d
 slashes_and_colon zero = refl
@@ -77,11 +77,7 @@ phi_is d c r =
 behind_prefix : (d : ℕ) (x y xs ys : List ℕ) → x ≡ prefix d ++ xs → y ≡ prefix d ++ ys → x ≡ y → xs ≡ ys
 behind_prefix d x y xs ys e f g = append_cancel_left (prefix d) xs ys (sym e ∙ g ∙ f)
 
--- ---- numbers that names have
-
-pub record IsShort (c : BlockCopy) : Type 0 where
-  pub turns : c.turns < 2 ^ 64
-  pub block : c.block < 2 ^ 64
+-- ---- names apart
 
 whole : (ct cb dt db : ℕ) → ct ≡ dt → cb ≡ db → (let r : BlockCopy = record { turns = ct; block = cb } in r) ≡ (let r : BlockCopy = record { turns = dt; block = db } in r)
 whole ct cb dt db e f = cc

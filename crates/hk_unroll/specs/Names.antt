@@ -1,5 +1,5 @@
 -- The names of what is new: short, unlike all names of the function, and unlike one another.
-use Rattle.std.specs.Prelude.{ℕ, zero, suc, ◌+◌, Bool, not, if◌then◌else◌, ◌==◌, nat_eq, Some, option_to_list, unwrap_or, List, [], ◌∷◌, ◌++◌, map, flat_map, find, length, codes, decimal}
+use Rattle.std.specs.Prelude.{ℕ, zero, suc, ◌+◌, ◌<◌, ◌^◌, Bool, not, if◌then◌else◌, ◌==◌, nat_eq, Some, option_to_list, unwrap_or, List, [], ◌∷◌, ◌++◌, map, flat_map, find, length, codes, decimal}
 use Rattle.std.specs.List.{list_any, starts_with, range_with_len}
 use Rattle.ir_ast.specs.Program.{InstrView, BlockView, FunctionView}
 use Rattle.ir_typing.specs.Registers.{blocks_of}
@@ -37,3 +37,8 @@ phi_name d c register = prefix d ++ decimal c.turns ++ codes ":" ++ decimal c.bl
 -- `:e`, the block to which a turn behind the last leads
 abbrev pub end_name : ℕ → List ℕ
 end_name d = prefix d ++ codes "e"
+
+-- numbers that code has
+pub record IsShort (c : BlockCopy) : Type 0 where
+  pub turns : c.turns < 2 ^ 64
+  pub block : c.block < 2 ^ 64
