@@ -15,7 +15,7 @@ at turns block = record { turns = turns; block = block }
 abbrev no_flags : Flags
 no_flags = record { nuw = false; nsw = false; exact = false; disjoint = false; nneg = false; inbounds = false }
 
-abbrev looping : FunctionView
+abbrev pub looping : FunctionView
 looping =
     record {
       line = 2; name = codes "fill"; result = nothing; parameters = [];

@@ -1,5 +1,6 @@
 mod Swapped
-mod Filled
+pub mod Filled
+mod Refused
 mod Spelled
 pub mod ArrivingLaws
 pub mod MissingLaws

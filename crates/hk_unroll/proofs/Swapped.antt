@@ -15,7 +15,7 @@ at turns block = record { turns = turns; block = block }
 abbrev no_flags : Flags
 no_flags = record { nuw = false; nsw = false; exact = false; disjoint = false; nneg = false; inbounds = false }
 
-abbrev looping : FunctionView
+abbrev pub looping : FunctionView
 looping =
     record {
       line = 1; name = codes "rot"; result = integer 8; parameters = ((integer 8, codes "x") ∷ (integer 8, codes "y") ∷ []);
