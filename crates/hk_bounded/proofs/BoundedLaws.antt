@@ -24,6 +24,7 @@ module _ (P : Program) (shapes : List Shape) (n : ℕ) where
       turns rest after true true f = absurd (cc)
       turns rest after true false f = rest (record { machine = after; turns = suc (own w.turns) ∷ callers w.turns }) f
       turns rest after false u f = rest (record { machine = after; turns = kept w.machine after w.turns }) f
+
       go : ((v : Watched) → stays_within P shapes n steps v ≡ true → bounded_run P shapes n steps v ≡ run P steps v.machine) → (next : Next)
           → stays_on (stays_within P shapes n steps) P shapes n w next ≡ true
           → then_bound (bound_next P shapes n w next) (bounded_run P shapes n steps) ≡ then_run next (run P steps)

@@ -55,9 +55,9 @@ row_size old ct cb j blocks R false e h own all =
 
 put_sized : (old : Layers) (c from : BlockCopy) (blocks n : ℕ) → c.turns < length old → AreSized blocks n old → AreSized blocks n (put old c from)
 put_sized old c from blocks n h s = record {
-    turns = length-set old c.turns (set (get_or old c.turns []) c.block (at_copy old c ++ from ∷ [])) ∙ s.turns;
-    rows = λ k b. row_size old c.turns c.block k blocks (at_copy old c ++ from ∷ []) (eqb c.turns k) refl h (s.rows c.turns (subst (λ n. c.turns < n) s.turns h)) (s.rows k b);
-  }
+  turns = length-set old c.turns (set (get_or old c.turns []) c.block (at_copy old c ++ from ∷ [])) ∙ s.turns;
+  rows = λ k b. row_size old c.turns c.block k blocks (at_copy old c ++ from ∷ []) (eqb c.turns k) refl h (s.rows c.turns (subst (λ n. c.turns < n) s.turns h)) (s.rows k b);
+}
 
 -- an edge arrives at a copy within n turns
 pub arrives_put : (old new : Layers) (n : ℕ) (c from : BlockCopy) → c.turns < length old → c.block < length (get_or old c.turns []) → new ≡ put old c from → Arrives n from c old new
@@ -104,14 +104,14 @@ no_edges n from targets layers = record { sized = λ blocks s. s; adds = λ d wi
 pub edge_more : (n : ℕ) (from c : BlockCopy) (targets : List ℕ) (i to : ℕ) (start old new : Layers) → i < length targets → to ≡ get_or targets i 0 → c ≡ led_to from to
     → ArriveAll n from (take i targets) start old → Arrives n from c old new → ArriveAll n from (take (i + 1) targets) start new
 edge_more n from c targets i to start old new h e led all one = record {
-    sized = λ blocks s. one.sized blocks (all.sized blocks s);
-    adds = λ d within.
+  sized = λ blocks s. one.sized blocks (all.sized blocks s);
+  adds = λ d within.
       one.adds d within
       ∙ ap (λ x. x ++ added (is_copy c d) from) (all.adds d within)
       ∙ append_assoc (at_copy start d) (arriving from d (take i targets)) (added (is_copy c d) from)
       ∙ ap (λ x. at_copy start d ++ (arriving from d (take i targets) ++ added (is_copy x d) from)) led
       ∙ ap (λ x. at_copy start d ++ x) (sym (arriving_more from d targets i to h e));
-  }
+}
 
 pub led_within : (graph : List (List ℕ)) (from c : BlockCopy) (items : List ℕ) (i : ℕ) → AreWithin graph → items ≡ targets_of graph from.block → i < length items
     → c ≡ led_to from (get_or items i 0) → c.block < length graph
@@ -127,7 +127,6 @@ edge_next n from c items targets i start old new e h led all one =
 
 pub all_edges : (n : ℕ) (from : BlockCopy) (targets : List ℕ) (i : ℕ) (old new : Layers) → take i targets ≡ targets → ArriveAll n from (take i targets) old new → ArriveAll n from targets old new
 all_edges n from targets i old new e all = let P : List ℕ → Type 0 = λ x. ArriveAll n from x old new in subst P e all
-
 
 -- ---- one step
 
@@ -155,10 +154,10 @@ arrivals_more graph n c made more old new e a all =
     subst P (sym e) (record {
       sized = all.sized (length graph) a.sized;
       arrive = λ d h k.
-        all.adds d h
-        ∙ ap (λ x. x ++ arriving c d (targets_of graph c.block)) (a.arrive d h k)
-        ∙ ap (λ x. arrivals graph made d ++ x) (sym (append-nil (arriving c d (targets_of graph c.block))))
-        ∙ sym (flat_map-append (λ from. arriving from d (targets_of graph from.block)) made (c ∷ []));
+          all.adds d h
+          ∙ ap (λ x. x ++ arriving c d (targets_of graph c.block)) (a.arrive d h k)
+          ∙ ap (λ x. arrivals graph made d ++ x) (sym (append-nil (arriving c d (targets_of graph c.block))))
+          ∙ sym (flat_map-append (λ from. arriving from d (targets_of graph from.block)) made (c ∷ []));
     })
 
 -- ---- layers
@@ -211,6 +210,6 @@ nothing_arrives graph n k layers h g e =
         rows = λ j b. ap length (get_or-replicate k j (replicate (length graph) []) [] (omega (arith, same))) ∙ length-replicate (length graph) [];
       };
       arrive = λ d within block.
-        ap (λ L. get_or L d.block []) (get_or-replicate k d.turns (replicate (length graph) []) [] (omega (arith, same)))
-        ∙ get_or-replicate (length graph) d.block [] [] block;
+          ap (λ L. get_or L d.block []) (get_or-replicate k d.turns (replicate (length graph) []) [] (omega (arith, same)))
+          ∙ get_or-replicate (length graph) d.block [] [] block;
     })

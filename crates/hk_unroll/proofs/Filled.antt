@@ -18,24 +18,43 @@ no_flags = record { nuw = false; nsw = false; exact = false; disjoint = false; n
 abbrev pub looping : FunctionView
 looping =
     record {
-      line = 2; name = codes "fill"; result = nothing; parameters = [];
+      line = 2;
+      name = codes "fill";
+      result = nothing;
+      parameters = [];
       body = Some (
-          record { line = 2; name = (codes "0"); instrs =
-              (record { line = 3; result = None; act = goto (codes "h") }
-              ∷ []) }
-          ∷ record { line = 4; name = (codes "h"); instrs =
-              (record { line = 5; result = Some (codes "i"); act = phi (integer 8) (((number (pos 0)), (codes "0")) ∷ ((local (codes "j")), (codes "b")) ∷ []) }
-              ∷ record { line = 6; result = Some (codes "c"); act = compare Ult (integer 8) (local (codes "i")) (number (pos 3)) }
-              ∷ record { line = 7; result = None; act = branch (local (codes "c")) (codes "b") (codes "e") }
-              ∷ []) }
-          ∷ record { line = 8; name = (codes "b"); instrs =
-              (record { line = 9; result = None; act = store (integer 8) (local (codes "i")) (global (codes "t")) 0 }
-              ∷ record { line = 10; result = Some (codes "j"); act = binary Add no_flags 8 (local (codes "i")) (number (pos 1)) }
-              ∷ record { line = 11; result = None; act = goto (codes "h") }
-              ∷ []) }
-          ∷ record { line = 12; name = (codes "e"); instrs =
-              (record { line = 13; result = None; act = give nothing None }
-              ∷ []) }
+          record {
+            line = 2;
+            name = (codes "0");
+            instrs =
+                (record { line = 3; result = None; act = goto (codes "h") }
+                ∷ []);
+          }
+          ∷ record {
+            line = 4;
+            name = (codes "h");
+            instrs =
+                (record { line = 5; result = Some (codes "i"); act = phi (integer 8) (((number (pos 0)), (codes "0")) ∷ ((local (codes "j")), (codes "b")) ∷ []) }
+                ∷ record { line = 6; result = Some (codes "c"); act = compare Ult (integer 8) (local (codes "i")) (number (pos 3)) }
+                ∷ record { line = 7; result = None; act = branch (local (codes "c")) (codes "b") (codes "e") }
+                ∷ []);
+          }
+          ∷ record {
+            line = 8;
+            name = (codes "b");
+            instrs =
+                (record { line = 9; result = None; act = store (integer 8) (local (codes "i")) (global (codes "t")) 0 }
+                ∷ record { line = 10; result = Some (codes "j"); act = binary Add no_flags 8 (local (codes "i")) (number (pos 1)) }
+                ∷ record { line = 11; result = None; act = goto (codes "h") }
+                ∷ []);
+          }
+          ∷ record {
+            line = 12;
+            name = (codes "e");
+            instrs =
+                (record { line = 13; result = None; act = give nothing None }
+                ∷ []);
+          }
           ∷ []);
     }
 
@@ -48,48 +67,83 @@ loops = record { function = looping; most = 1; fresh = fresh (names_of looping);
 
 some_rebuilt : rebuilt loops ≡
     record {
-      line = 2; name = codes "fill"; result = nothing; parameters = [];
+      line = 2;
+      name = codes "fill";
+      result = nothing;
+      parameters = [];
       body = Some (
-          record { line = 2; name = (codes "0"); instrs =
-              (record { line = 3; result = None; act = goto (codes "h") }
-              ∷ []) }
-          ∷ record { line = 4; name = (codes "h"); instrs =
-              (record { line = 5; result = Some (codes "i"); act = phi (integer 8) (((number (pos 0)), (codes "0")) ∷ []) }
-              ∷ record { line = 6; result = Some (codes "c"); act = compare Ult (integer 8) (local (codes "i")) (number (pos 3)) }
-              ∷ record { line = 7; result = None; act = branch (local (codes "c")) (codes "b") (codes "e") }
-              ∷ []) }
-          ∷ record { line = 8; name = (codes "b"); instrs =
-              (record { line = 5; result = Some (phi_name 0 (at 0 2) 0); act = phi (integer 8) (((local (codes "i")), (codes "h")) ∷ []) }
-              ∷ record { line = 6; result = Some (phi_name 0 (at 0 2) 1); act = phi (integer 1) (((local (codes "c")), (codes "h")) ∷ []) }
-              ∷ record { line = 9; result = None; act = store (integer 8) (local (phi_name 0 (at 0 2) 0)) (global (codes "t")) 0 }
-              ∷ record { line = 10; result = Some (codes "j"); act = binary Add no_flags 8 (local (phi_name 0 (at 0 2) 0)) (number (pos 1)) }
-              ∷ record { line = 11; result = None; act = goto (block_name 0 (at 1 1)) }
-              ∷ []) }
-          ∷ record { line = 12; name = (codes "e"); instrs =
-              (record { line = 5; result = Some (phi_name 0 (at 0 3) 0); act = phi (integer 8) (((local (codes "i")), (codes "h")) ∷ []) }
-              ∷ record { line = 6; result = Some (phi_name 0 (at 0 3) 1); act = phi (integer 1) (((local (codes "c")), (codes "h")) ∷ []) }
-              ∷ record { line = 13; result = None; act = give nothing None }
-              ∷ []) }
-          ∷ record { line = 4; name = (block_name 0 (at 1 1)); instrs =
-              (record { line = 5; result = Some (register_name 0 1 0); act = phi (integer 8) (((local (codes "j")), (codes "b")) ∷ []) }
-              ∷ record { line = 6; result = Some (register_name 0 1 1); act = compare Ult (integer 8) (local (register_name 0 1 0)) (number (pos 3)) }
-              ∷ record { line = 7; result = None; act = branch (local (register_name 0 1 1)) (block_name 0 (at 1 2)) (block_name 0 (at 1 3)) }
-              ∷ []) }
-          ∷ record { line = 8; name = (block_name 0 (at 1 2)); instrs =
-              (record { line = 5; result = Some (phi_name 0 (at 1 2) 0); act = phi (integer 8) (((local (register_name 0 1 0)), (block_name 0 (at 1 1))) ∷ []) }
-              ∷ record { line = 6; result = Some (phi_name 0 (at 1 2) 1); act = phi (integer 1) (((local (register_name 0 1 1)), (block_name 0 (at 1 1))) ∷ []) }
-              ∷ record { line = 9; result = None; act = store (integer 8) (local (phi_name 0 (at 1 2) 0)) (global (codes "t")) 0 }
-              ∷ record { line = 10; result = Some (register_name 0 1 2); act = binary Add no_flags 8 (local (phi_name 0 (at 1 2) 0)) (number (pos 1)) }
-              ∷ record { line = 11; result = None; act = goto (end_name 0) }
-              ∷ []) }
-          ∷ record { line = 12; name = (block_name 0 (at 1 3)); instrs =
-              (record { line = 5; result = Some (phi_name 0 (at 1 3) 0); act = phi (integer 8) (((local (register_name 0 1 0)), (block_name 0 (at 1 1))) ∷ []) }
-              ∷ record { line = 6; result = Some (phi_name 0 (at 1 3) 1); act = phi (integer 1) (((local (register_name 0 1 1)), (block_name 0 (at 1 1))) ∷ []) }
-              ∷ record { line = 13; result = None; act = give nothing None }
-              ∷ []) }
-          ∷ record { line = 2; name = (end_name 0); instrs =
-              (record { line = 2; result = None; act = unreachable }
-              ∷ []) }
+          record {
+            line = 2;
+            name = (codes "0");
+            instrs =
+                (record { line = 3; result = None; act = goto (codes "h") }
+                ∷ []);
+          }
+          ∷ record {
+            line = 4;
+            name = (codes "h");
+            instrs =
+                (record { line = 5; result = Some (codes "i"); act = phi (integer 8) (((number (pos 0)), (codes "0")) ∷ []) }
+                ∷ record { line = 6; result = Some (codes "c"); act = compare Ult (integer 8) (local (codes "i")) (number (pos 3)) }
+                ∷ record { line = 7; result = None; act = branch (local (codes "c")) (codes "b") (codes "e") }
+                ∷ []);
+          }
+          ∷ record {
+            line = 8;
+            name = (codes "b");
+            instrs =
+                (record { line = 5; result = Some (phi_name 0 (at 0 2) 0); act = phi (integer 8) (((local (codes "i")), (codes "h")) ∷ []) }
+                ∷ record { line = 6; result = Some (phi_name 0 (at 0 2) 1); act = phi (integer 1) (((local (codes "c")), (codes "h")) ∷ []) }
+                ∷ record { line = 9; result = None; act = store (integer 8) (local (phi_name 0 (at 0 2) 0)) (global (codes "t")) 0 }
+                ∷ record { line = 10; result = Some (codes "j"); act = binary Add no_flags 8 (local (phi_name 0 (at 0 2) 0)) (number (pos 1)) }
+                ∷ record { line = 11; result = None; act = goto (block_name 0 (at 1 1)) }
+                ∷ []);
+          }
+          ∷ record {
+            line = 12;
+            name = (codes "e");
+            instrs =
+                (record { line = 5; result = Some (phi_name 0 (at 0 3) 0); act = phi (integer 8) (((local (codes "i")), (codes "h")) ∷ []) }
+                ∷ record { line = 6; result = Some (phi_name 0 (at 0 3) 1); act = phi (integer 1) (((local (codes "c")), (codes "h")) ∷ []) }
+                ∷ record { line = 13; result = None; act = give nothing None }
+                ∷ []);
+          }
+          ∷ record {
+            line = 4;
+            name = (block_name 0 (at 1 1));
+            instrs =
+                (record { line = 5; result = Some (register_name 0 1 0); act = phi (integer 8) (((local (codes "j")), (codes "b")) ∷ []) }
+                ∷ record { line = 6; result = Some (register_name 0 1 1); act = compare Ult (integer 8) (local (register_name 0 1 0)) (number (pos 3)) }
+                ∷ record { line = 7; result = None; act = branch (local (register_name 0 1 1)) (block_name 0 (at 1 2)) (block_name 0 (at 1 3)) }
+                ∷ []);
+          }
+          ∷ record {
+            line = 8;
+            name = (block_name 0 (at 1 2));
+            instrs =
+                (record { line = 5; result = Some (phi_name 0 (at 1 2) 0); act = phi (integer 8) (((local (register_name 0 1 0)), (block_name 0 (at 1 1))) ∷ []) }
+                ∷ record { line = 6; result = Some (phi_name 0 (at 1 2) 1); act = phi (integer 1) (((local (register_name 0 1 1)), (block_name 0 (at 1 1))) ∷ []) }
+                ∷ record { line = 9; result = None; act = store (integer 8) (local (phi_name 0 (at 1 2) 0)) (global (codes "t")) 0 }
+                ∷ record { line = 10; result = Some (register_name 0 1 2); act = binary Add no_flags 8 (local (phi_name 0 (at 1 2) 0)) (number (pos 1)) }
+                ∷ record { line = 11; result = None; act = goto (end_name 0) }
+                ∷ []);
+          }
+          ∷ record {
+            line = 12;
+            name = (block_name 0 (at 1 3));
+            instrs =
+                (record { line = 5; result = Some (phi_name 0 (at 1 3) 0); act = phi (integer 8) (((local (register_name 0 1 0)), (block_name 0 (at 1 1))) ∷ []) }
+                ∷ record { line = 6; result = Some (phi_name 0 (at 1 3) 1); act = phi (integer 1) (((local (register_name 0 1 1)), (block_name 0 (at 1 1))) ∷ []) }
+                ∷ record { line = 13; result = None; act = give nothing None }
+                ∷ []);
+          }
+          ∷ record {
+            line = 2;
+            name = (end_name 0);
+            instrs =
+                (record { line = 2; result = None; act = unreachable }
+                ∷ []);
+          }
           ∷ []);
     }
 some_rebuilt = refl

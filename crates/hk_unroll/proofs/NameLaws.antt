@@ -134,4 +134,4 @@ end_is_no_register d k r h same =
 pub end_is_no_phi : (d : ℕ) (c : BlockCopy) (r : ℕ) → IsShort c → end_name d ≡ phi_name d c r → ⊥
 end_is_no_phi d c r s same =
     no_letter 101 (decimal c.turns) [] (decimal c.block ++ 58 ∷ 114 ∷ decimal r) (omega arith) (digits c.turns s.turns)
-      (behind_prefix d (end_name d) (phi_name d c r) (101 ∷ []) (phi_rest c r) refl (phi_is d c r) same)
+    (behind_prefix d (end_name d) (phi_name d c r) (101 ∷ []) (phi_rest c r) refl (phi_is d c r) same)

@@ -20,6 +20,7 @@ same_copy c d e = both (eqb c.turns d.turns) (eqb c.block d.block) refl refl e
   where
     whole : (ct cb dt db : ℕ) → ct ≡ dt → cb ≡ db → (let r : BlockCopy = record { turns = ct; block = cb } in r) ≡ (let r : BlockCopy = record { turns = dt; block = db } in r)
     whole ct cb dt db e f = cc
+
     both : (t u : Bool) → eqb c.turns d.turns ≡ t → eqb c.block d.block ≡ u → (t && u) ≡ true → c ≡ d
     both true true e f h = whole c.turns c.block d.turns d.block (eqb-true c.turns d.turns e) (eqb-true c.block d.block f)
     both true false e f h = absurd (cc)
@@ -53,9 +54,11 @@ filtered p (y ∷ xs) x c = pick (p y) refl (λ d. filtered p xs x d) c
   where
     later : Contains xs x × (p x ≡ true) → Contains (y ∷ xs) x × (p x ≡ true)
     later r = (Contains-append_right (y ∷ []) xs x r.0, r.1)
+
     head : (p y ≡ true) → (Contains (filter p xs) x → Contains xs x × (p x ≡ true)) → Contains (y ∷ filter p xs) x → Contains (y ∷ xs) x × (p x ≡ true)
     head holds rest (zero, l, e) = ((0, omega arith, e), ap p (sym e) ∙ holds)
     head holds rest (suc k, l, e) = later (rest (k, omega (arith, l), e))
+
     pick : (t : Bool) → p y ≡ t → (Contains (filter p xs) x → Contains xs x × (p x ≡ true)) → Contains (if t then y ∷ filter p xs else filter p xs) x → Contains (y ∷ xs) x × (p x ≡ true)
     pick true e rest d = head e rest d
     pick false e rest d = later (rest d)
@@ -104,9 +107,11 @@ module _ (graph : List (List ℕ)) (n : ℕ) where
     where
       later : (f : BlockCopy) → Contains cs f → f.turns ≤ n
       later f k = within f (Contains-append_right (e ∷ []) cs f k)
+
       more : IsReached graph n e → (f : BlockCopy) → Contains made f ⊎ (e ≡ f) → IsReached graph n f
       more here f (inl g) = all f g
       more here f (inr same) = let P : BlockCopy → Type 0 = λ x. IsReached graph n x in subst P same here
+
       pick : (t : Bool) → is_reached graph made e ≡ t
           → (((f : BlockCopy) → Contains (made ++ e ∷ []) f → IsReached graph n f) → Contains (grown graph (made ++ e ∷ []) cs) d → IsReached graph n d)
           → (Contains (grown graph made cs) d → IsReached graph n d)
@@ -131,12 +136,15 @@ module _ (graph : List (List ℕ)) (n : ℕ) where
       first : Contains made d ⊎ (e ≡ d) → Contains made d ⊎ Contains (e ∷ cs) d
       first (inl g) = inl g
       first (inr same) = inr (0, omega arith, same)
+
       later : Contains made d ⊎ Contains cs d → Contains made d ⊎ Contains (e ∷ cs) d
       later (inl k) = inl k
       later (inr k) = inr (Contains-append_right (e ∷ []) cs d k)
+
       pushed : Contains (made ++ e ∷ []) d ⊎ Contains cs d → Contains made d ⊎ Contains (e ∷ cs) d
       pushed (inl k) = first (Contains-push_cases made e d k)
       pushed (inr k) = inr (Contains-append_right (e ∷ []) cs d k)
+
       pick : (t : Bool) → (Contains (grown graph (made ++ e ∷ []) cs) d → Contains (made ++ e ∷ []) d ⊎ Contains cs d)
           → (Contains (grown graph made cs) d → Contains made d ⊎ Contains cs d)
           → Contains (grown graph (if t then made ++ e ∷ [] else made) cs) d → Contains made d ⊎ Contains (e ∷ cs) d
@@ -154,8 +162,10 @@ module _ (graph : List (List ℕ)) (n : ℕ) where
       or_true : (t : Bool) {u : Bool} → u ≡ true → (t || u) ≡ true
       or_true true g = refl
       or_true false g = g
+
       is : is_copy (led_to d to) e ≡ true
       is = ap (λ x. is_copy x e) (sym led) ∙ itself e
+
       arrives : Contains (arrivals graph made e) d
       arrives = in_flat_map (λ (from : BlockCopy). arriving from e (targets_of graph from.block)) made d d c
           (Contains-map (λ (to : ℕ). d) (filter (λ to. is_copy (led_to d to) e) (targets_of graph d.block)) to (kept_by (λ to. is_copy (led_to d to) e) (targets_of graph d.block) to edge is))
@@ -211,20 +221,24 @@ split_at m n e h k =
   where
     count : n + 1 ≡ e.turns + suc (n - e.turns)
     count = omega arith
+
     blocks : m ≡ e.block + suc (m - (e.block + 1))
     blocks = omega (arith, k)
+
     none : (x : ℕ) → 0 + x ≡ x
     none x = omega arith
+
     layers : all_copies m n ≡ layers_from m 0 e.turns ++ (layer m e.turns ++ layers_from m (e.turns + 1) (n - e.turns))
     layers =
-      ap (layers_from m 0) count
-      ∙ ap (flat_map (layer m)) (range_splits 0 e.turns (suc (n - e.turns)) ∙ ap (λ a. range_with_len 0 e.turns ++ range_with_len a (suc (n - e.turns))) (none e.turns))
-      ∙ flat_map-append (layer m) (range_with_len 0 e.turns) (range_with_len e.turns (suc (n - e.turns)))
+        ap (layers_from m 0) count
+        ∙ ap (flat_map (layer m)) (range_splits 0 e.turns (suc (n - e.turns)) ∙ ap (λ a. range_with_len 0 e.turns ++ range_with_len a (suc (n - e.turns))) (none e.turns))
+        ∙ flat_map-append (layer m) (range_with_len 0 e.turns) (range_with_len e.turns (suc (n - e.turns)))
+
     own : layer m e.turns ≡ layer_from e.turns 0 e.block ++ e ∷ layer_from e.turns (e.block + 1) (m - (e.block + 1))
     own =
-      ap (layer_from e.turns 0) blocks
-      ∙ ap (map (λ b. let r : BlockCopy = record { turns = e.turns; block = b } in r)) (range_splits 0 e.block (suc (m - (e.block + 1))) ∙ ap (λ a. range_with_len 0 e.block ++ range_with_len a (suc (m - (e.block + 1)))) (none e.block))
-      ∙ map-append (λ b. let r : BlockCopy = record { turns = e.turns; block = b } in r) (range_with_len 0 e.block) (range_with_len e.block (suc (m - (e.block + 1))))
+        ap (layer_from e.turns 0) blocks
+        ∙ ap (map (λ b. let r : BlockCopy = record { turns = e.turns; block = b } in r)) (range_splits 0 e.block (suc (m - (e.block + 1))) ∙ ap (λ a. range_with_len 0 e.block ++ range_with_len a (suc (m - (e.block + 1)))) (none e.block))
+        ∙ map-append (λ b. let r : BlockCopy = record { turns = e.turns; block = b } in r) (range_with_len 0 e.block) (range_with_len e.block (suc (m - (e.block + 1))))
 
 -- no edge leads from a copy to one that does not come behind it
 not_back : (m n : ℕ) (d e : BlockCopy) (to : ℕ) → e ≡ led_to d to → Contains (e ∷ behind m n e) d → ⊥
@@ -232,8 +246,10 @@ not_back m n d e to led c = pick (nat_le to d.block) refl
   where
     place : to ≡ e.block
     place = sym (ap (λ (c : BlockCopy). c.block) led)
+
     turns : (t : Bool) → nat_le to d.block ≡ t → e.turns ≡ (if t then d.turns + 1 else d.turns)
     turns t g = ap (λ (c : BlockCopy). c.turns) led ∙ ap (λ t. if t then d.turns + 1 else d.turns) g
+
     order : Contains (e ∷ behind m n e) d → ((d.turns ≡ e.turns) × (e.block ≤ d.block)) ⊎ (e.turns < d.turns)
     order (zero, l, g) = inl (sym (ap (λ (c : BlockCopy). c.turns) g), omega (arith, ap (λ (c : BlockCopy). c.block) g))
     order (suc k, l, g) = rest (Contains-append_cases (layer_from e.turns (e.block + 1) (m - (e.block + 1))) (layers_from m (e.turns + 1) (n - e.turns)) d (k, omega (arith, l), g))
@@ -242,11 +258,13 @@ not_back m n d e to led c = pick (nat_le to d.block) refl
             → ((d.turns ≡ e.turns) × (e.block ≤ d.block)) ⊎ (e.turns < d.turns)
         rest (inl x) = let i : (d.turns ≡ e.turns) × (e.block + 1 ≤ d.block) = in_layer e.turns (e.block + 1) (m - (e.block + 1)) d x in inl (i.0, omega (arith, i.1))
         rest (inr x) = let i : (e.turns + 1 ≤ d.turns) × (d.turns < e.turns + 1 + (n - e.turns)) = in_layers m (e.turns + 1) (n - e.turns) d x in inr (omega (arith, i.0))
+
     clash : (t : Bool) → nat_le to d.block ≡ t → ((d.turns ≡ e.turns) × (e.block ≤ d.block)) ⊎ (e.turns < d.turns) → ⊥
     clash true g (inl o) = let s : e.turns ≡ d.turns + 1 = turns true g in omega (arith, o.0, s)
     clash true g (inr o) = let s : e.turns ≡ d.turns + 1 = turns true g in omega (arith, o, s)
     clash false g (inl o) = let later : d.block < to = leb-false to d.block g in omega (arith, o.1, later, place)
     clash false g (inr o) = let s : e.turns ≡ d.turns = turns false g in omega (arith, o, s)
+
     pick : (t : Bool) → nat_le to d.block ≡ t → ⊥
     pick t g = clash t g (order c)
 
@@ -256,19 +274,26 @@ module _ (graph : List (List ℕ)) (n : ℕ) (within : AreWithin graph) where
     where
       there : e.block < length graph
       there = let place : to ≡ e.block = sym (ap (λ (c : BlockCopy). c.block) led) in subst (λ x. x < length graph) place (within d.block to edge)
+
       front : List BlockCopy
       front = ahead (length graph) e
+
       back : List BlockCopy
       back = behind (length graph) n e
+
       split : all_copies (length graph) n ≡ front ++ e ∷ back
       split = split_at (length graph) n e h there
+
       made : List BlockCopy
       made = grown graph [] front
+
       in_parts : Contains (grown graph made (e ∷ back)) d
       in_parts = subst (λ xs. Contains xs d) (grown_parts graph n [] front (e ∷ back)) (subst (λ xs. Contains (grown graph [] xs) d) split c)
+
       before : Contains made d ⊎ Contains (e ∷ back) d → Contains made d
       before (inl k) = k
       before (inr k) = absurd (not_back (length graph) n d e to led k)
+
       here : Contains (grown graph made (e ∷ back)) e
       here = made_here graph n made back e (edge_reached graph n made d e (before (grown_from graph n made (e ∷ back) d in_parts)) (to, edge, led, h))
 
@@ -285,6 +310,7 @@ module _ (graph : List (List ℕ)) (n : ℕ) (within : AreWithin graph) where
     where
       none : (e : BlockCopy) → Contains [] e → ⊥
       none e (k, l, g) = omega (arith, l)
+
       low : (e : BlockCopy) → (0 ≤ e.turns) × (e.turns < 0 + (n + 1)) → e.turns ≤ n
       low e b = omega (arith, b.1)
 

@@ -131,7 +131,11 @@ fn knows_targets(index: &NameIndex, op: &Op) -> bool {
         Op::Goto { target } => index.place(target).is_some(),
         Op::Branch { yes, no, .. } => index.place(yes).is_some() && index.place(no).is_some(),
         Op::Switch { default, cases, .. } => {
-            index.place(default).is_some() && cases.items.iter().all(|case| index.place(&case.1).is_some())
+            index.place(default).is_some()
+                && cases
+                    .items
+                    .iter()
+                    .all(|case| index.place(&case.1).is_some())
         }
         _ => true,
     }

@@ -148,12 +148,7 @@ impl Copies {
     }
 
     /// An edge arrives at a copy, where it is within so many turns.
-    fn arrive(
-        &mut self,
-        most: u32,
-        from: BlockCopy,
-        copy: BlockCopy,
-    ) -> Result<(), AllocError>
+    fn arrive(&mut self, most: u32, from: BlockCopy, copy: BlockCopy) -> Result<(), AllocError>
         requires turns { copy.turns ≤ most → copy.turns < length self.old.layers.items }
         requires block { copy.turns ≤ most → copy.block < length (slice_index_or self.old.layers.items copy.turns []) }
         ensures made { OnOk result (self.new.made.items ≡ self.old.made.items) }
@@ -166,12 +161,7 @@ impl Copies {
     }
 
     /// Follows the edges of a copy, within so many turns.
-    fn follow(
-        &mut self,
-        graph: &Graph,
-        most: u32,
-        from: BlockCopy,
-    ) -> Result<(), AllocError>
+    fn follow(&mut self, graph: &Graph, most: u32, from: BlockCopy) -> Result<(), AllocError>
         requires within { AreWithin graph.now }
         requires few { most + 1 < 2 ^ 32 }
         requires turns { from.turns ≤ most }

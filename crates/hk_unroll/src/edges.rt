@@ -83,11 +83,7 @@ pub fn blocks_of(function: &Function) -> &[Block]
 }
 
 /// The graph of the edges of these blocks, of which this is the index.
-pub fn edges_among(
-    alloc: Global,
-    index: &NameIndex,
-    blocks: &[Block],
-) -> Result<Graph, AllocError>
+pub fn edges_among(alloc: Global, index: &NameIndex, blocks: &[Block]) -> Result<Graph, AllocError>
     requires few { length index.now < 2 ^ 32 }
     requires index { index.now ≡ map (λ b. b.name) blocks.now }
     ensures { IfOk result (λ graph. graph ≡ graph_by block_targets (named (map view_block blocks.now))) }

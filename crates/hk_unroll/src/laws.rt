@@ -11,8 +11,7 @@ ghost use Rattle.hk_unroll.specs.Names.{block_name, register_name, phi_name, end
 pub fn copies_are_those_reached()
     ensures made { (graph : List (List ℕ)) (n : ℕ) → AreWithin graph → (c : BlockCopy) → Contains (copies_of graph n) c → IsReached graph n c }
     ensures reached { (graph : List (List ℕ)) (n : ℕ) → AreWithin graph → 0 < length graph → (c : BlockCopy) → IsReached graph n c → Contains (copies_of graph n) c }
-{
-}
+{}
 
 /// New names of blocks, of registers and of added phis, and that of the added block, are told apart.
 pub fn new_names_differ()
@@ -25,5 +24,4 @@ pub fn new_names_differ()
     ensures end_block { (d : ℕ) (c : BlockCopy) → IsShort c → end_name d ≡ block_name d c → ⊥ }
     ensures end_register { (d k r : ℕ) → k < 2 ^ 64 → end_name d ≡ register_name d k r → ⊥ }
     ensures end_phi { (d : ℕ) (c : BlockCopy) (r : ℕ) → IsShort c → end_name d ≡ phi_name d c r → ⊥ }
-{
-}
+{}

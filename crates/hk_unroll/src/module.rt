@@ -3,10 +3,10 @@
 use crate::arms::all_arms_meet;
 use crate::asked::{Known, is_unsound};
 use crate::edges::{blocks_of, edges_among};
-use crate::index::{NameIndex, index_blocks};
 use crate::fault::{UnrollFault, UnrollReason, UnrollStop};
 use crate::functions::copy_function;
 use crate::globals::{add_entry, copy_globals, copy_layout_text, copy_named, copy_ranges};
+use crate::index::{NameIndex, index_blocks};
 use crate::rebuilt::rebuilt;
 use crate::registers::{Registers, registers_of};
 use crate::strays::{is_large, is_unfit};

@@ -2,9 +2,9 @@
 
 use crate::acts::copied_op;
 use crate::copies::{BlockCopy, Copies, led_to};
+use crate::fresh::fresh_number;
 use crate::index::NameIndex;
 use crate::loops::{Loops, Spot};
-use crate::fresh::fresh_number;
 use crate::names::end_name;
 use crate::naming::Naming;
 use crate::passed::Passed;

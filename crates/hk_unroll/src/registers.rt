@@ -123,11 +123,7 @@ fn add_parameters(
 }
 
 /// Adds the registers that the instructions of blocks set.
-fn add_blocks(
-    alloc: Global,
-    registers: &mut Registers,
-    blocks: &[Block],
-) -> Result<(), AllocError>
+fn add_blocks(alloc: Global, registers: &mut Registers, blocks: &[Block]) -> Result<(), AllocError>
     requires { length blocks.now < 2 ^ 32 }
     ensures { OnOk result (registers.new ≡ registers.old ++ set_among 0 (map view_block blocks.now)) }
 {

@@ -25,7 +25,11 @@ enum Move {
 
 /// What the next step does.
 fn move_of(program: &Program, machine: &Machine) -> Move {
-    let Some(code) = program.functions.as_slice().get(machine.top.function as usize) else {
+    let Some(code) = program
+        .functions
+        .as_slice()
+        .get(machine.top.function as usize)
+    else {
         return Move::Stays;
     };
     let Some(block) = code.blocks.as_slice().get(machine.top.block as usize) else {
