@@ -1,6 +1,7 @@
 """Draws kernels with loops as rows for the program hk_unroll_tests, two rows of arguments for each kernel.
 
 Usage: bench/draw_loops.py SEED COUNT
+"""
 import random, sys
 seed, count = int(sys.argv[1]), int(sys.argv[2])
 R = random.Random(seed)
