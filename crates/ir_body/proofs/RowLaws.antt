@@ -7,7 +7,6 @@ use Rattle.ir_lex.specs.Decimal.{width_of}
 use Rattle.ir_lex.specs.Tok.{Tok, word, mark}
 use Rattle.ir_lex.specs.Parts.{Part, sign, key, may, width, over, returned, callee, register, predicate, target, part, bit, place, width_value, width_pair, typed, typed_pair, twice, alignment, access, arms, offsets, arguments, choices, Got, AllGot, predicate_word, SpellsPart, SpellsAll, SpellsTyped}
 use Rattle.ir_ast.specs.declared.instr.Predicate.{Predicate}
-use Rattle.ir_ast.specs.declared.instr.Predicate.TheVariants.{Eq, Ne, Ugt, Uge, Ult, Ule, Sgt, Sge, Slt, Sle}
 use Rattle.ir_lex.specs.Rows.{Row}
 use Rattle.ir_part.specs.Reader.{◌>>=◌, ended, Takes}
 use Rattle.ir_part.specs.Fronts.{after_word}
@@ -15,7 +14,8 @@ use Rattle.ir_part.proofs.Fronts.{bound, some_is, text_is}
 use Rattle.ir_part.proofs.TypeLaws.{no_word}
 use Rattle.ir_part.proofs.OperandLaws.{flag_complete}
 use Rattle.ir_body.specs.Rows.{read_part, read_all, read_row, is_no_type, is_no_predicate, never_first, is_ready}
-use Rattle.ir_body.specs.Words.{predicate_of, unsigned_of, signed_of}
+use Rattle.ir_body.specs.Words.{predicate_of}
+use Rattle.ir_body.proofs.WordLaws.{predicate_there}
 use Rattle.ir_body.proofs.PartSound.{part_sound}
 use Rattle.ir_body.proofs.PartComplete.{is_plain, part_complete, last_complete, access_last, arms_last, offsets_last}
 
@@ -86,20 +86,6 @@ other_word text other rest h = ap (λ b. if b then Some rest else None) h
 may_follows : (text other : List ℕ) (ps : List Part) (b : Bool) (ts first rest : List Tok) → bytes_eq other text ≡ false → SpellsPart (may other) b first → ts ≡ first ++ rest → after_word text rest ≡ None → after_word text ts ≡ None
 may_follows text other ps true ts first rest apart s is none = ap (after_word text) (is ∙ ap (λ us. us ++ rest) s) ∙ other_word text other rest apart
 may_follows text other ps false ts first rest apart s is none = ap (after_word text) (is ∙ ap (λ us. us ++ rest) s) ∙ none
-
--- the word of a comparison stands for it
-predicate_there : (p : Predicate) → predicate_of (predicate_word p) ≡ Some p
-unfolding predicate_of unsigned_of signed_of
-predicate_there Eq = refl
-predicate_there Ne = refl
-predicate_there Ugt = refl
-predicate_there Uge = refl
-predicate_there Ult = refl
-predicate_there Ule = refl
-predicate_there Sgt = refl
-predicate_there Sge = refl
-predicate_there Slt = refl
-predicate_there Sle = refl
 
 no_predicate : (text : List ℕ) (p : Predicate) → is_no_predicate (predicate_of text) ≡ true → bytes_eq (predicate_word p) text ≡ false
 no_predicate text p h = by (bytes_eq (predicate_word p) text) refl

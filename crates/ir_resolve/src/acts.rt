@@ -74,7 +74,7 @@ fn compare_by(
     alloc: Global,
     context: &Context,
     shapes: &mut Shapes,
-    predicate: Predicate,
+    comparison: Comparison,
     width: Option<u32>,
     pointers: bool,
     pair: &OperandPair,
