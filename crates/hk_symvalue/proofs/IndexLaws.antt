@@ -8,7 +8,7 @@ use Rattle.hk_num.specs.Numbers.{number_of}
 use Rattle.ir_value.specs.declared.value.Value.{Value}
 use Rattle.ir_value.specs.declared.value.Value.TheVariants.{Number, Null, Address, Poison}
 use Rattle.ir_value.specs.Numbers.{is_width, is_number}
-use Rattle.ir_value.specs.Pointers.{added_by, is_within, is_no_move, move_by, step_of}
+use Rattle.ir_value.specs.Pointers.{added_by, is_within, is_no_move, move_by, signed_step, wraps, steps_back, step_of}
 use Rattle.hk_symvalue.specs.Meaning.{based, stands_for}
 use Rattle.hk_symvalue.specs.Indices.{distance, is_back, delta_of, leaves_object, stays_at}
 
@@ -172,19 +172,19 @@ module _ (inbounds pf none : Bool) (w each xi base x size y : ℕ) where
   number width goes false f = all_poison pf ∙ sym (ap (λ t. if t && false then move_by inbounds size (added_by w xi each) (stands_for pf base x) else Poison) width)
 
   known : (bi : ℕ) → is_width w ≡ true → Goes → (zero one : Bool) → stands_for (pf || (not (zero && nat_lt xi (2 ^ w)) || none)) base y
-      ≡ step_of inbounds size w each (if zero then Number xi else (if one then Null else Address (bi - 2) xi)) (stands_for pf base x)
+      ≡ signed_step inbounds size w each (if zero then Number xi else (if one then Null else Address (bi - 2) xi)) (stands_for pf base x)
   known bi width goes true one = number width goes (nat_lt xi (2 ^ w)) refl
   known bi width goes false true = all_poison pf
   known bi width goes false false = all_poison pf
 
-  by_index : (bi : ℕ) → is_width w ≡ true → Goes → (pi : Bool) → stands_for (pf || ((pi || not (nat_eq bi 0 && nat_lt xi (2 ^ w))) || none)) base y ≡ step_of inbounds size w each (stands_for pi bi xi) (stands_for pf base x)
+  by_index : (bi : ℕ) → is_width w ≡ true → Goes → (pi : Bool) → stands_for (pf || ((pi || not (nat_eq bi 0 && nat_lt xi (2 ^ w))) || none)) base y ≡ signed_step inbounds size w each (stands_for pi bi xi) (stands_for pf base x)
   by_index bi width goes true = all_poison pf
   by_index bi width goes false = known bi width goes (nat_eq bi 0) (nat_eq bi 1)
 
 pub step_is : (inbounds pi pf bad back over r : Bool) (w each bi xi base x size y n by : ℕ) → 1 ≤ w → w ≤ 64 → x < 2 ^ 64 → size < 2 ^ 64 → n ≡ xi % 2 ^ w
     → bad ≡ (pi || not (nat_eq bi 0 && nat_lt xi (2 ^ w))) → back ≡ is_back w n → over ≡ nat_le (2 ^ 64) (distance w n each) → by ≡ delta_of (is_back w n) (distance w n each)
     → y ≡ (x + by) % 2 ^ 64 → r ≡ (pf || (bad || stays_at inbounds back over by base x size))
-    → stands_for r base y ≡ step_of inbounds size w each (stands_for pi bi xi) (stands_for pf base x)
+    → stands_for r base y ≡ signed_step inbounds size w each (stands_for pi bi xi) (stands_for pf base x)
 step_is inbounds pi pf bad back over r w each bi xi base x size y n by some most small room is bad_is back_is over_is by_is to poison =
     ap (λ t. stands_for t base y) (poison ∙ (λ i. pf || (bad_is i || stays_at inbounds (back_is i) (over_is i) (by_is i) base x size)))
     ∙ by_index inbounds pf (stays_at inbounds (is_back w n) (nat_le (2 ^ 64) (distance w n each)) (delta_of (is_back w n) (distance w n each)) base x size) w each xi base x size y bi width goes pi
@@ -204,13 +204,20 @@ step_is inbounds pi pf bad back over r w each bi xi base x size y n by some most
         ∙ ap (λ z. move_by inbounds size z (based base x)) (sym (added_is w n each) ∙ ap (λ k. added_by w k each) (is ∙ mod-eq_of_lt (ltb-true _ _ f)))
 
 -- no index has a number of another width
-pub no_width : (inbounds : Bool) (size w each : ℕ) (i v : Value) → (1 ≤ w → w ≤ 64 → ⊥) → Poison ≡ step_of inbounds size w each i v
-no_width inbounds size w each Null v h = refl
-no_width inbounds size w each (Address o x) v h = refl
-no_width inbounds size w each Poison v h = refl
-no_width inbounds size w each (Number n) v h = sym (by (cases_lt 0 w) (cases_lt 64 w))
+pub no_width : (inbounds nuw : Bool) (size w each : ℕ) (i v : Value) → (1 ≤ w → w ≤ 64 → ⊥) → Poison ≡ step_of inbounds nuw size w each i v
+no_width inbounds nuw size w each i v h = by ((inbounds && nuw) && wraps w each i v)
   where
-    by : (0 < w) ⊎ (w ≤ 0) → (64 < w) ⊎ (w ≤ 64) → step_of inbounds size w each (Number n) v ≡ Poison
-    by (inr z) s = λ i. if (lt-leb 1 w (omega (arith, z)) i && nat_le w 64) && is_number w n then move_by inbounds size (added_by w n each) v else Poison
-    by (inl o) (inl far) = λ i. if (le-leb 1 w o i && lt-leb w 64 far i) && is_number w n then move_by inbounds size (added_by w n each) v else Poison
-    by (inl o) (inr near) = absurd (h o near)
+    number : (n : ℕ) → (0 < w) ⊎ (w ≤ 0) → (64 < w) ⊎ (w ≤ 64) → signed_step inbounds size w each (Number n) v ≡ Poison
+    number n (inr z) s = λ i. if (lt-leb 1 w (omega (arith, z)) i && nat_le w 64) && is_number w n then move_by inbounds size (added_by w n each) v else Poison
+    number n (inl o) (inl far) = λ i. if (le-leb 1 w o i && lt-leb w 64 far i) && is_number w n then move_by inbounds size (added_by w n each) v else Poison
+    number n (inl o) (inr near) = absurd (h o near)
+
+    stays : (i : Value) → Poison ≡ signed_step inbounds size w each i v
+    stays Null = refl
+    stays (Address o x) = refl
+    stays Poison = refl
+    stays (Number n) = sym (number n (cases_lt 0 w) (cases_lt 64 w))
+
+    by : (t : Bool) → Poison ≡ (if t then Poison else signed_step inbounds size w each i v)
+    by true = refl
+    by false = stays i

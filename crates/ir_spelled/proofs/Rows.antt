@@ -63,7 +63,7 @@ pair_width opaque a b result setting ts s pair = refl
 comparing : (text : List ℕ) → IsGood (text, rows.comparing)
 comparing text result act ts (setting, rest, got, s, spelled, built, parts) =
     subst (λ o. fits o ≡ true) built
-    (tested (rows.is_scalar got.1.0.0 && not (rows.is_pointer_type got.1.0.0 && rows.is_signed got.0)) (compare got.0 got.1.0.0 got.1.0.1 got.1.0.2) (pair_width got.1.0.0 got.1.0.1 got.1.0.2 result setting _ s spelled.3.2))
+    (tested (rows.is_scalar got.1.1.0.0 && not (rows.is_pointer_type got.1.1.0.0 && (got.0 || rows.is_signed got.1.0))) (compare got.0 got.1.0 got.1.1.0.0 got.1.1.0.1 got.1.1.0.2) (pair_width got.1.1.0.0 got.1.1.0.1 got.1.1.0.2 result setting _ s spelled.3.3.2))
 
 -- ---- phis
 
