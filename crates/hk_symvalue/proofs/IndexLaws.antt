@@ -4,7 +4,11 @@ use Rattle.std.proofs.lemmas.Int.{ints}
 use Rattle.std.proofs.Math.IntN.{neg_ℤ, pos-*ℤ-pos, negsuc-*ℤ-pos}
 use Rattle.std.proofs.Math.Nat.{mod-eq_of_lt, div-lt_iff_lt-mul, le-div_iff_mul-le, mul-zero}
 use Rattle.std.proofs.lemmas.Bool.{lt-ltb, le-ltb, le-leb, lt-leb, cases_lt, ne_eqb, ltb-true}
-use Rattle.hk_num.specs.Numbers.{number_of}
+use Rattle.std.specs.Prelude.{int_lt}
+use Rattle.std.proofs.lemmas.Nat.{pow_pos}
+use Rattle.hk_num.specs.Numbers.{number_of, signed_of, bvslt}
+use Rattle.hk_num.proofs.Readings.{reading_low}
+use Rattle.ir_value.proofs.Unsigned.{by_sign}
 use Rattle.ir_value.specs.declared.value.Value.{Value}
 use Rattle.ir_value.specs.declared.value.Value.TheVariants.{Number, Null, Address, Poison}
 use Rattle.ir_value.specs.Numbers.{is_width, is_number}
@@ -221,3 +225,57 @@ no_width inbounds nuw size w each i v h = by ((inbounds && nuw) && wraps w each 
     by : (t : Bool) → Poison ≡ (if t then Poison else signed_step inbounds size w each i v)
     by true = refl
     by false = stays i
+
+-- ---- the flags
+
+below_zero : (w n : ℕ) → 1 ≤ w → bvslt w n 0 ≡ is_back w n
+below_zero w n some = ap (λ z. int_lt (signed_of w n) z) (reading_low w 0 (pow_pos (w - 1))) ∙ by (nat_lt n (2 ^ (w - 1)))
+  where
+    by : (t : Bool) → int_lt (if t then pos n else negsuc (2 ^ w - 1 - n)) (pos 0) ≡ not t
+    by true = le-ltb n 0 (omega arith)
+    by false = refl
+
+poison_anyway : (t : Bool) (m : Value) → m ≡ Poison → (if t then Poison else m) ≡ Poison
+poison_anyway true m e = refl
+poison_anyway false m e = e
+
+pub or_poison : (a p : Bool) (base bits : ℕ) → stands_for (a || p) base bits ≡ (if a then Poison else stands_for p base bits)
+or_poison true p base bits = refl
+or_poison false p base bits = refl
+
+-- the sign of an index tells whether the flags exclude it
+pub flagged_is : (inbounds nuw pi : Bool) (size w each bi xi : ℕ) (v m : Value) → size < 2 ^ 64 → 1 ≤ w → w ≤ 64 → m ≡ signed_step inbounds size w each (stands_for pi bi xi) v
+    → (if ((inbounds && nuw) && not (each == 0)) && is_back w (xi % 2 ^ w) then Poison else m) ≡ step_of inbounds nuw size w each (stands_for pi bi xi) v
+flagged_is inbounds nuw pi size w each bi xi v m fits some most e = by pi (nat_eq bi 0) (nat_eq bi 1) e
+  where
+    test : Bool
+    test = ((inbounds && nuw) && not (each == 0)) && is_back w (xi % 2 ^ w)
+
+    width : is_width w ≡ true
+    width = λ i. le-leb 1 w some i && le-leb w 64 most i
+
+    no_index : (j : Value) → signed_step inbounds size w each j v ≡ Poison → step_of inbounds nuw size w each j v ≡ Poison
+    no_index j none = poison_anyway ((inbounds && nuw) && wraps w each j v) (signed_step inbounds size w each j v) none
+
+    grouped : (a b c : Bool) → ((a && b) && c) ≡ (a && (b && c))
+    grouped true b c = refl
+    grouped false b c = refl
+
+    number : (t : Bool) → is_number w xi ≡ t → m ≡ signed_step inbounds size w each (Number xi) v → (if test then Poison else m) ≡ step_of inbounds nuw size w each (Number xi) v
+    number false f e =
+        let none : signed_step inbounds size w each (Number xi) v ≡ Poison = λ i. if width i && f i then move_by inbounds size (added_by w xi each) v else Poison in
+        poison_anyway test m (e ∙ none) ∙ sym (no_index (Number xi) none)
+    number true f e =
+        let same : xi % 2 ^ w ≡ xi = mod-eq_of_lt (ltb-true xi (2 ^ w) f) in
+        let told : test ≡ ((inbounds && nuw) && steps_back w each (Number xi)) =
+        grouped (inbounds && nuw) (not (each == 0)) (is_back w (xi % 2 ^ w))
+        ∙ (λ i. (inbounds && nuw) && (not (each == 0) && (ap (is_back w) same ∙ sym (below_zero w xi some)) i))
+        ∙ sym (λ i. (inbounds && nuw) && ((width i && f i) && (not (each == 0) && bvslt w xi 0))) in
+        (λ i. if told i then Poison else e i) ∙ sym (by_sign inbounds nuw size w each (Number xi) v fits)
+
+    by : (p zero one : Bool) → m ≡ signed_step inbounds size w each (if p then Poison else (if zero then Number xi else (if one then Null else Address (bi - 2) xi))) v
+        → (if test then Poison else m) ≡ step_of inbounds nuw size w each (if p then Poison else (if zero then Number xi else (if one then Null else Address (bi - 2) xi))) v
+    by true zero one e = poison_anyway test m e ∙ sym (no_index Poison refl)
+    by false true one e = number (is_number w xi) refl e
+    by false false true e = poison_anyway test m e ∙ sym (no_index Null refl)
+    by false false false e = poison_anyway test m e ∙ sym (no_index (Address (bi - 2) xi) refl)

@@ -37,7 +37,6 @@ fn trunc(t: &mut Terms, flags: Flags, to: u32, a: Flagged) -> Result<SymValue, A
 fn drops_one(t: &mut Terms, a: TermId, low: TermId) -> Result<TermId, AllocError>
     requires number { a < length t.old }
     requires low { low < length t.old }
-    requires narrower { width t.old low ≤ width t.old a }
     ensures frame { Extends t.old t.new }
     ensures truth { IfOk result (λ r. IsTruth t.new r) }
     ensures value { IfOk result (λ r. (v : Reading) → is_true t.new r v ≡ not (nat_eq (value t.old low v % 2 ^ width t.old a) (value t.old a v))) }
