@@ -21,8 +21,14 @@ def cells(line):
     return [cell.strip() for cell in re.split(r"(?<!\\)\|", line.strip().strip("|"))]
 
 
+def refusal_of(said):
+    """The refusal of the text that a cell begins with, and nothing where the text is read."""
+    found = re.match(r"K\d+", said)
+    return found.group() if found else None
+
+
 def rows():
-    """Each file that the table names with what is said of it: a refusal of the text, or nothing where the text is read."""
+    """Each file that the table names with what is said of it, and what of the texts of a newer clang."""
     with open(os.path.join(TOP, "docs", "GUIDE.md"), encoding="utf-8") as guide:
         lines = guide.read().split("\n")
     begin = next(at for at, line in enumerate(lines) if line.startswith("| C | clang wrote |"))
@@ -30,9 +36,9 @@ def rows():
         if not line.startswith("|"):
             return
         first, _, said, _ = cells(line)
-        refusal = re.match(r"K\d+", said)
+        newer = dict(re.findall(r"\((clang-\d+): (K\d+|inside)\)", said))
         for name in re.findall(r"`(\w+)\.c`", first):
-            yield name, refusal.group() if refusal else None
+            yield name, refusal_of(said), {clang: refusal_of(word) for clang, word in newer.items()}
 
 
 def answer(hkv, clang, name, folder):
@@ -53,7 +59,8 @@ def main():
     count = other = 0
     with tempfile.TemporaryDirectory() as folder:
         for clang in filter(shutil.which, CLANGS):
-            for name, said in table:
+            for name, usual, newer in table:
+                said = newer.get(clang, usual)
                 got = answer(hkv, clang, name, folder)
                 count += 1
                 if got != said:
