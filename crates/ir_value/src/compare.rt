@@ -54,7 +54,10 @@ fn compare_of(samesign: bool, predicate: Predicate, w: u32, a: Value, b: Value) 
 {
     match (a, b) {
         (Value::Number(a), Value::Number(b)) => {
-            unless(samesign && signs_differ(w, a, b), truth(holds(predicate, w, a, b)))
+            unless(
+                samesign && signs_differ(w, a, b),
+                truth(holds(predicate, w, a, b)),
+            )
         }
         (Value::Number(_), Value::Poison) => Made::Gives(Value::Poison),
         (Value::Poison, Value::Number(_)) => Made::Gives(Value::Poison),

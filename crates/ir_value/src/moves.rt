@@ -104,14 +104,7 @@ fn added_by(w: u32, n: u64, each: u64) -> i128
 }
 
 /// The address that a signed index steps to; size is that of the address's object. A poison index makes poison.
-fn signed_step(
-    inbounds: bool,
-    size: u64,
-    w: u32,
-    each: u64,
-    index: Value,
-    value: Value,
-) -> Value
+fn signed_step(inbounds: bool, size: u64, w: u32, each: u64, index: Value, value: Value) -> Value
     ensures { result ≡ definition.signed_step inbounds size w each index value }
 {
     match index {
