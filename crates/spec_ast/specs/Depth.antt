@@ -1,6 +1,6 @@
 -- How deep expressions are, and which stand on a line.
-use Rattle.std.specs.Prelude.{ℕ, ◌+◌, max, Option, Some, None, List, [], ◌∷◌, ◌++◌}
-use Rattle.spec_ast.specs.Raw.{Tree, literal, truth, named, read, read_at, path, unary, binary, all_of, any_of, choose, resize, sized, for_all, exists, Trees, no_trees, tree_and, Step, element, member, Steps, no_steps, step_and, Item, let_line, write_line, return_line, end_line}
+use Rattle.std.specs.Prelude.{ℕ, ◌+◌, max, Option, Some, None, List, [], ◌∷◌, ◌++◌, map}
+use Rattle.spec_ast.specs.Raw.{Tree, literal, truth, named, read, read_at, path, unary, binary, all_of, any_of, choose, resize, sized, for_all, exists, Trees, no_trees, tree_and, Step, element, member, Steps, no_steps, step_and, Item, let_line, write_line, return_line, end_line, count_line, view_line}
 
 abbrev mutual
   -- a leaf has the depth 1, any other node one more than its deepest part
@@ -48,4 +48,6 @@ trees_on (write_line c f at e) = optional_trees at ++ e ∷ []
 trees_on (return_line e) = e ∷ []
 trees_on (end_line e s None) = e ∷ []
 trees_on (end_line e s (Some r)) = e ∷ r ∷ []
+trees_on (count_line f vs e) = e ∷ []
+trees_on (view_line s shown) = map (λ x. x.value) shown
 trees_on _ = []

@@ -37,6 +37,11 @@ mutual
     no_steps : Steps
     step_and : Step → Steps → Steps
 
+-- what a view shows: one expression, or under names, of which there is one or more, its values at all their tuples
+pub record Shown : Type 0 where
+  pub names : List (List ℕ)  -- Each ( [ v , .. ] , e ); none where it is one expression
+  pub value : Tree
+
 -- a line by its production
 pub data Item : Type 0 where
   sort_line : List ℕ → RawSort → Item
@@ -51,6 +56,8 @@ pub data Item : Type 0 where
   write_line : List ℕ → List ℕ → Option Trees → Tree → Item  -- NAME . NAME [ e , .. ] = e
   return_line : Tree → Item
   end_line : Tree → List ℕ → Option Tree → Item  -- return e , NAME , e
+  count_line : List ℕ → List (List ℕ) → Tree → Item  -- return FIELD , Count ( [ v , .. ] , e )
+  view_line : RawSort → List Shown → Item  -- return SORT , e , ..
 
 -- a logical line: the number of its first physical line, and its production
 pub record Line : Type 0 where

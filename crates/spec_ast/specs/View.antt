@@ -1,7 +1,7 @@
 -- What a raw tree of the code means: the plain data with the same parts.
 use Rattle.std.specs.Prelude.{option_map, List, [], ◌∷◌, map}
 use Rattle.spec_ast.specs.Raw as plain
-use Rattle.spec_ast.specs.Raw.{Tree, Trees, Step, Steps, Item, Line, no_trees, tree_and, no_steps, step_and}
+use Rattle.spec_ast.specs.Raw.{Tree, Trees, Step, Steps, Item, Line, Shown, no_trees, tree_and, no_steps, step_and}
 use Rattle.spec_ast.specs.declared.raw.RawExpr.{RawExpr}
 use Rattle.spec_ast.specs.declared.raw.RawExprs.{RawExprs}
 use Rattle.spec_ast.specs.declared.raw.RawStep.{RawStep}
@@ -9,7 +9,8 @@ use Rattle.spec_ast.specs.declared.raw.RawSteps.{RawSteps}
 use Rattle.spec_ast.specs.declared.raw.RawExpr.TheOpen.{RawExpr-F, RawExprs-F, RawStep-F, RawSteps-F}
 use Rattle.spec_ast.specs.declared.raw.RawExpr.TheFolds.{fold-RawExpr, fold-RawExprs, fold-RawStep, fold-RawSteps}
 use Rattle.spec_ast.specs.declared.raw.RawItem.{RawItem}
-use Rattle.spec_ast.specs.declared.raw.RawItem.TheVariants.{Sort, Constant, Hook, Class, Field, Def, Var, Let, Copy, Write, Return, End}
+use Rattle.spec_ast.specs.declared.raw.RawItem.TheVariants.{Sort, Constant, Hook, Class, Field, Def, Var, Let, Copy, Write, Return, End, Count, View}
+use Rattle.spec_ast.specs.declared.raw.RawShown.{RawShown}
 use Rattle.spec_ast.specs.declared.raw.RawLine.{RawLine}
 use Rattle.spec_ast.specs.declared.raw.RawSpec.{RawSpec}
 
@@ -66,6 +67,9 @@ view_exprs es = trees_of (map view_expr es)
 abbrev pub view_steps : List RawStep → Steps
 view_steps ss = steps_of (map view_step ss)
 
+abbrev pub view_shown : RawShown → Shown
+view_shown s = record { names = s.names; value = view_expr s.value }
+
 abbrev pub view_item : RawItem → Item
 view_item (Sort x sort) = plain.sort_line x sort
 view_item (Constant x n) = plain.constant_line x n
@@ -79,6 +83,8 @@ view_item (Copy x s) = plain.copy_line x s
 view_item (Write c f at e) = plain.write_line c f (option_map view_expr_list at) (view_expr e)
 view_item (Return e) = plain.return_line (view_expr e)
 view_item (End e s r) = plain.end_line (view_expr e) s (option_map view_expr r)
+view_item (Count f vs e) = plain.count_line f vs (view_expr e)
+view_item (View s shown) = plain.view_line s (map view_shown shown)
 
 abbrev pub view_line : RawLine → Line
 view_line l = record { line = l.line; item = view_item l.item }

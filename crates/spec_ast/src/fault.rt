@@ -51,6 +51,13 @@ pub enum SpecReason {
     /// A transition whose function reaches a declared function that is neither a listed intrinsic nor a hook.
     #[error("S15")]
     S15,
+    /// A count whose field has not one key, whose body reads the state otherwise than at the counted variables, or that has too many
+    /// tuples for its field or for the limit.
+    #[error("S16")]
+    S16,
+    /// A view whose observers have no index sort.
+    #[error("S17")]
+    S17,
 }
 
 /// A refusal: the first physical line of the logical line that fails, counted from 1, and the reason.

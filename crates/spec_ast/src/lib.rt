@@ -13,8 +13,8 @@ pub use fault::{SpecFault, SpecReason, SpecStop};
 pub use kind::{BinKind, UnKind};
 pub use name::{Name, NameList};
 pub use raw::{
-    RawExpr, RawExprs, RawItem, RawLine, RawResize, RawSort, RawSortList, RawSpec, RawStep,
-    RawSteps,
+    RawExpr, RawExprs, RawItem, RawLine, RawResize, RawShown, RawShownList, RawSort, RawSortList,
+    RawSpec, RawStep, RawSteps,
 };
 
 #[cfg(test)]

@@ -132,6 +132,49 @@ impl RawSortList {
     }
 }
 
+/// What a view shows: an expression, or `Each([v, ..], e)`, its values at all tuples of these variables.
+#[derive(Drop)]
+pub struct RawShown {
+    /// The variables of an `Each`; none where it is one expression.
+    pub names: NameList,
+    pub value: RawExpr,
+}
+
+/// What a view shows, in the order of the text.
+#[derive(Drop)]
+pub struct RawShownList {
+    items: Vec<RawShown>,
+}
+
+impl Model for RawShownList {
+    ghost use Rattle.std.specs.Prelude.{List};
+    ghost use Rattle.std.specs.Coded.{codes};
+    ghost use Rattle.spec_ast.specs.contracts.raw.RawExpr as e;
+    ghost use Rattle.spec_ast.specs.declared.raw.RawShown.{RawShown};
+
+    ghost Value = { List RawShown };
+
+    ghost coded = { Prim.hlevel (codes, e.the_row.coded) };
+
+    ghost view = { λ l. l.items.items };
+}
+
+impl RawShownList {
+    /// The list of these.
+    pub fn of(items: Vec<RawShown>) -> RawShownList
+        ensures { result ≡ items.items }
+    {
+        RawShownList { items }
+    }
+
+    /// The list as a slice.
+    pub fn as_slice(&self) -> &[RawShown]
+        ensures { result.now ≡ self.now }
+    {
+        self.items.as_slice()
+    }
+}
+
 /// A line by its production.
 #[derive(Drop)]
 pub enum RawItem {
@@ -159,6 +202,10 @@ pub enum RawItem {
     Return(RawExpr),
     /// `return EXPR, NAME` or `return EXPR, NAME, EXPR`.
     End(RawExpr, Name, Option<RawExpr>),
+    /// `return FIELD, Count([v, ..], b)`.
+    Count(Name, NameList, RawExpr),
+    /// `return SORT, e, ..`, the last line of a view.
+    View(RawSort, RawShownList),
 }
 
 /// A logical line: the number of its first physical line, counted from 1, and its production.

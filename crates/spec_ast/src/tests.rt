@@ -22,6 +22,8 @@ fn codes_and_lines_are_printed(rt: HostRuntime) -> Result<(), AllocError> {
         (SpecReason::S13, "S13"),
         (SpecReason::S14, "S14"),
         (SpecReason::S15, "S15"),
+        (SpecReason::S16, "S16"),
+        (SpecReason::S17, "S17"),
     ];
     for (reason, code) in table {
         assert_eq!(rt; format!(in alloc; "{reason}")?.as_str(), code);

@@ -1,12 +1,13 @@
 -- How a line is read, at its place: by its first words, and an expression or sort up to its end.
-use Rattle.std.specs.Prelude.{ℕ, zero, suc, ℤ, pos, neg_ℤ, max, nat_le, Bool, false, ◌&&◌, if◌then◌else◌, Option, Some, None, List, [], ◌∷◌, length, drop, codes, bytes_eq}
+use Rattle.std.specs.Prelude.{ℕ, zero, suc, ℤ, pos, neg_ℤ, max, nat_le, ◌+◌, Bool, false, ◌&&◌, if◌then◌else◌, Option, Some, None, List, [], ◌∷◌, length, drop, codes, bytes_eq}
+use Rattle.spec_ast.specs.Depth.{depth}
 use Rattle.spec_ast.specs.declared.raw.RawSort.{RawSort}
 use Rattle.spec_ast.specs.declared.raw.RawSort.TheVariants.{Named, Bits, Index}
-use Rattle.spec_ast.specs.Raw.{Tree, Item, sort_line, constant_line, hook_line, class_line, field_line, def_line, var_line, let_line, copy_line, write_line, return_line, end_line}
+use Rattle.spec_ast.specs.Raw.{Tree, Shown, Item, sort_line, constant_line, hook_line, class_line, field_line, def_line, var_line, let_line, copy_line, write_line, return_line, end_line, count_line, view_line}
 use Rattle.spec_expr.specs.Words.{Text, is_name, number_of}
-use Rattle.spec_expr.specs.Grown.{Grown, built, lift, join, limited, limited_list}
-use Rattle.spec_expr.specs.Reading.{Reader, after, past, number_at, number_comma_at, name_at, arguments_at, expr_at}
-use Rattle.spec_read.specs.Places.{Function, Place, top, class_body, body_of, nowhere, function_of, is_handler}
+use Rattle.spec_expr.specs.Grown.{Grown, built, bounded, lift, join, limited, limited_list}
+use Rattle.spec_expr.specs.Reading.{Reader, after, past, number_at, number_comma_at, name_at, bound_at, arguments_at, expr_at}
+use Rattle.spec_read.specs.Places.{Function, Place, top, class_body, body_of, nowhere, function_of, is_reserved, is_handler, is_count, is_view}
 
 -- what is read and what stands behind it are gone on with
 abbrev pub follows : {A B : Type 0} → Option (A × List Text) → (A → List Text → Option B) → Option B
@@ -21,6 +22,11 @@ at_end a (t ∷ ts) = None
 abbrev pub or_else : {A : Type 0} → Option A → Option A → Option A
 or_else None other = other
 or_else (Some a) other = Some a
+
+-- what is read is seen through this
+abbrev pub one_more : {A B : Type 0} → (A → B) → Option A → Option B
+one_more f None = None
+one_more f (Some a) = Some (f a)
 
 abbrev pub begins_round : List Text → Bool
 begins_round [] = false
@@ -103,7 +109,7 @@ class_from x (t ∷ ts) =
 
 abbrev pub def_with : Text → List Text → Option Function → List Text → Option (Grown Item)
 def_with x xs None ts = None
-def_with x xs (Some f) ts = at_end (plain (def_line x xs)) ts
+def_with x xs (Some f) ts = if is_reserved x then None else at_end (plain (def_line x xs)) ts
 
 abbrev pub def_from : Text → List Text → Option (Grown Item)
 def_from x ts = past (codes "(") ts (λ rest. follows (parameters_at rest) (λ xs rest. past (codes ":") rest (λ rest. def_with x xs (function_of x xs) rest)))
@@ -199,9 +205,56 @@ result_from most n e s (t ∷ ts) = if bytes_eq t (codes ",") then expr_end most
 abbrev pub ending_from : ℕ → ℕ → List Text → Option (Grown Item)
 ending_from most n ts = follows (expr_at most n ts) (λ e rest. past (codes ",") rest (λ rest. follows (name_at rest) (result_from most n e)))
 
+-- `( [ v , .. ] , e )`, behind its word
+abbrev pub over_at : ℕ → ℕ → Reader (List Text × Grown Tree)
+over_at most n ts =
+    past (codes "(") ts (λ rest. after (bound_at rest) (λ vs rest. after (expr_at most n rest) (λ e rest. past (codes ")") rest (λ rest. Some ((vs, e), rest)))))
+
+-- behind `return FIELD , Count`
+abbrev pub counted_from : ℕ → ℕ → Text → List Text → Option (Grown Item)
+counted_from most n f ts = follows (over_at most n ts) (λ p rest. at_end (lift most (count_line f p.0) same_depth p.1) rest)
+
+-- the result of a count: behind its `return`
+abbrev pub counting_from : ℕ → ℕ → List Text → Option (Grown Item)
+counting_from most n ts = follows (name_at ts) (λ f rest. past (codes ",") rest (λ rest. past (codes "Count") rest (counted_from most n f)))
+
+abbrev pub shown_with : List Text → Tree → Shown
+shown_with vs e = record { names = vs; value = e }
+
+abbrev pub each_at : ℕ → ℕ → Reader (Grown Shown)
+each_at most n ts = after (over_at most n ts) (λ p rest. Some (lift most (shown_with p.0) same_depth p.1, rest))
+
+abbrev pub plain_at : ℕ → ℕ → Reader (Grown Shown)
+plain_at most n ts = after (expr_at most n ts) (λ e rest. Some (lift most (shown_with []) same_depth e, rest))
+
+-- what is shown: the word `Each` with its parenthesis begins one over names
+abbrev pub shown_at : ℕ → ℕ → Reader (Grown Shown)
+shown_at most n [] = None
+shown_at most n (t ∷ ts) = if begins_round ts && bytes_eq t (codes "Each") then each_at most n ts else plain_at most n (t ∷ ts)
+
+-- what is shown up to the end of the line, with a comma before each; at most so many
+unfoldable pub more_shown_at : ℕ → ℕ → ℕ → List Text → Option (Grown (List Shown))
+more_shown_at most n zero ts = None
+more_shown_at most n (suc m) [] = Some (built [] 0)
+more_shown_at most n (suc m) (t ∷ ts) =
+    if bytes_eq t (codes ",")
+    then follows (shown_at most n ts) (λ x rest. one_more (join most (λ y ys. y ∷ ys) max x) (more_shown_at most n m rest))
+    else None
+
+-- at least one
+abbrev pub some_shown_at : ℕ → ℕ → List Text → Option (Grown (List Shown))
+some_shown_at most n [] = None
+some_shown_at most n (t ∷ ts) = more_shown_at most n (length ts + 2) (t ∷ ts)
+
+-- the result of a view: behind its `return`
+abbrev pub showing_from : ℕ → ℕ → List Text → Option (Grown Item)
+showing_from most n ts = follows (sort_at ts) (λ s rest. one_more (lift most (view_line s) same_depth) (some_shown_at most n rest))
+
 abbrev pub return_from : ℕ → ℕ → Function → List Text → Option (Grown Item)
 return_from most n f ts =
-    if is_handler f then ending_from most n ts else expr_end most n (lift most return_line same_depth) ts
+    if is_handler f then ending_from most n ts
+    else (if is_count f then counting_from most n ts
+    else (if is_view f then showing_from most n ts else expr_end most n (lift most return_line same_depth) ts))
 
 abbrev pub statement_from : ℕ → ℕ → Function → Text → List Text → Option (Grown Item)
 statement_from most n f x [] = None
@@ -218,6 +271,11 @@ item_at most n class_body ts = class_at ts
 item_at most n (body_of f) ts = body_at most n f ts
 item_at most n nowhere ts = None
 
+-- the depth of what a view shows
+abbrev pub shown_depth : List Shown → ℕ
+shown_depth [] = 0
+shown_depth (x ∷ xs) = max (depth x.value) (shown_depth xs)
+
 -- the line built up to a depth
 abbrev pub limited_item : ℕ → Item → Grown Item
 limited_item most (let_line x e) = lift most (let_line x) same_depth (limited most e)
@@ -226,4 +284,6 @@ limited_item most (write_line c f (Some es) e) = join most (λ at x. write_line 
 limited_item most (return_line e) = lift most return_line same_depth (limited most e)
 limited_item most (end_line e s None) = lift most (λ x. end_line x s None) same_depth (limited most e)
 limited_item most (end_line e s (Some r)) = join most (λ x y. end_line x s (Some y)) max (limited most e) (limited most r)
+limited_item most (count_line f vs e) = lift most (count_line f vs) same_depth (limited most e)
+limited_item most (view_line s shown) = bounded most (view_line s shown) (shown_depth shown)
 limited_item most item = built item 0

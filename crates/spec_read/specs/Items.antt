@@ -2,10 +2,10 @@
 use Rattle.std.specs.Prelude.{◌≡◌, ℕ, pos, neg_ℤ, ◌≤◌, true, false, ◌⊎◌, Some, None, List, [], ◌∷◌, ◌++◌, length, codes}
 use Rattle.spec_ast.specs.declared.raw.RawSort.{RawSort}
 use Rattle.spec_ast.specs.declared.raw.RawSort.TheVariants.{Named, Bits, Index}
-use Rattle.spec_ast.specs.Raw.{Item, sort_line, constant_line, hook_line, class_line, field_line, def_line, var_line, let_line, copy_line, write_line, return_line, end_line}
+use Rattle.spec_ast.specs.Raw.{Tree, Item, sort_line, constant_line, hook_line, class_line, field_line, def_line, var_line, let_line, copy_line, write_line, return_line, end_line, count_line, view_line, Shown}
 use Rattle.spec_expr.specs.Words.{Text, is_name}
-use Rattle.spec_expr.specs.Spelling.{IsNumber, SpellsExpr, SpellsArguments}
-use Rattle.spec_read.specs.Places.{Function, Place, top, class_body, body_of, function_of, is_handler}
+use Rattle.spec_expr.specs.Spelling.{IsNumber, AreNames, SpellsBound, SpellsExpr, SpellsArguments}
+use Rattle.spec_read.specs.Places.{Function, Place, top, class_body, body_of, function_of, is_reserved, is_handler, is_count, is_view, is_relation}
 
 -- `Bits ( n )`, `Index ( w , n )`
 abbrev pub SpellsNewSort : RawSort → List Text → Type 0
@@ -51,8 +51,37 @@ IsInHandler (body_of f) = is_handler f ≡ true
 IsInHandler _ = ⊥
 
 abbrev pub IsInOther : Place → Type 0
-IsInOther (body_of f) = is_handler f ≡ false
+IsInOther (body_of f) = is_relation f ≡ true
 IsInOther _ = ⊥
+
+abbrev pub IsInCount : Place → Type 0
+IsInCount (body_of f) = is_count f ≡ true
+IsInCount _ = ⊥
+
+abbrev pub IsInView : Place → Type 0
+IsInView (body_of f) = is_view f ≡ true
+IsInView _ = ⊥
+
+-- `WORD ( [ v , .. ] , e )`
+abbrev pub SpellsOver : Text → List Text → Tree → List Text → Type 0
+SpellsOver word vs e ts =
+    (front : List Text) × (inner : List Text) × SpellsBound vs front × SpellsExpr e inner × (ts ≡ word ∷ codes "(" ∷ (front ++ (inner ++ codes ")" ∷ [])))
+
+-- an expression, or one over names
+abbrev pub SpellsValue : List Text → Tree → List Text → Type 0
+SpellsValue [] e ts = SpellsExpr e ts
+SpellsValue (v ∷ vs) e ts = SpellsOver (codes "Each") (v ∷ vs) e ts
+
+-- what is shown, with a comma before each
+abbrev pub AreShown : List Shown → List Text → Type 0
+AreShown [] ts = ts ≡ []
+AreShown (x ∷ xs) ts =
+    (first : List Text) × (rest : List Text) × SpellsValue x.names x.value first × AreShown xs rest × (ts ≡ codes "," ∷ (first ++ rest))
+
+-- one or more
+abbrev pub AreSomeShown : List Shown → List Text → Type 0
+AreSomeShown [] ts = ⊥
+AreSomeShown (x ∷ xs) ts = AreShown (x ∷ xs) ts
 
 -- the words spell the line, at this place
 abbrev pub SpellsItem : Place → Item → List Text → Type 0
@@ -77,7 +106,7 @@ SpellsItem place (field_line x (k ∷ ks) s) ts =
 -- def NAME ( NAME , .. ) :
 SpellsItem place (def_line x xs) ts =
     (names : List Text) × (f : Function) × (place ≡ top) × (is_name x ≡ true) × (function_of x xs ≡ Some f) × AreParameters xs names
-    × (ts ≡ codes "def" ∷ x ∷ codes "(" ∷ (names ++ codes ":" ∷ []))
+    × (ts ≡ codes "def" ∷ x ∷ codes "(" ∷ (names ++ codes ":" ∷ [])) × (is_reserved x ≡ false)
 -- NAME = Var ( SORT )
 SpellsItem place (var_line x s) ts =
     (inner : List Text) × IsIn place × (is_name x ≡ true) × SpellsSort s inner × (ts ≡ x ∷ codes "=" ∷ codes "Var" ∷ codes "(" ∷ (inner ++ codes ")" ∷ []))
@@ -102,3 +131,9 @@ SpellsItem place (end_line e s None) ts =
 SpellsItem place (end_line e s (Some r)) ts =
     (inner : List Text) × (result : List Text) × IsInHandler place × SpellsExpr e inner × (is_name s ≡ true) × SpellsExpr r result
     × (ts ≡ codes "return" ∷ (inner ++ codes "," ∷ s ∷ codes "," ∷ result))
+-- return FIELD , Count ( [ v , .. ] , e )
+SpellsItem place (count_line f vs e) ts =
+    (inner : List Text) × IsInCount place × (is_name f ≡ true) × SpellsOver (codes "Count") vs e inner × (ts ≡ codes "return" ∷ f ∷ codes "," ∷ inner)
+-- return SORT , e , ..
+SpellsItem place (view_line s shown) ts =
+    (sort : List Text) × (rest : List Text) × IsInView place × SpellsSort s sort × AreSomeShown shown rest × (ts ≡ codes "return" ∷ (sort ++ rest))

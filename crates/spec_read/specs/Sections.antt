@@ -1,14 +1,17 @@
--- The places of lines, as far as the reading of a line depends on them: of the function around it, whether it is a transition.
-use Rattle.std.specs.Prelude.{Bool, if◌then◌else◌, Option, Some, None, option_map}
-use Rattle.spec_ast.specs.Raw.{Item, class_line, def_line, return_line, end_line}
+-- The places of lines, as far as the reading of a line depends on them: of the function around it, how it ends.
+use Rattle.std.specs.Prelude.{Bool, if◌then◌else◌, Option, Some, None, option_map, []}
+use Rattle.spec_ast.specs.Raw.{Item, class_line, def_line, return_line, end_line, count_line, view_line}
 use Rattle.spec_lex.specs.Lines.{Line}
-use Rattle.spec_read.specs.Places.{Function, Place, top, class_body, body_of, nowhere, equivalence, handler, function_of, is_handler}
+use Rattle.spec_read.specs.Places.{Function, Place, top, class_body, body_of, nowhere, equivalence, count, view, handler, function_of}
 use Rattle.spec_read.specs.Texts.{is_indented}
 use Rattle.spec_read.specs.declared.section.Section.{Section}
-use Rattle.spec_read.specs.declared.section.Section.TheVariants.{Top, Class, Transition, Relation, Nowhere}
+use Rattle.spec_read.specs.declared.section.Section.TheVariants.{Top, Class, Transition, Relation, Count, View, Nowhere}
 
 abbrev pub body_section : Function → Section
-body_section f = if is_handler f then Transition else Relation
+body_section handler = Transition
+body_section (count x) = Count
+body_section (view x) = View
+body_section _ = Relation
 
 abbrev pub section_where : Bool → Section → Option Section
 section_where holds s = if holds then Some s else None
@@ -25,6 +28,8 @@ place_for Top = top
 place_for Class = class_body
 place_for Transition = body_of handler
 place_for Relation = body_of equivalence
+place_for Count = body_of (count [])
+place_for View = body_of (view [])
 place_for Nowhere = nowhere
 
 -- the section of this line, and of indented ones behind it
@@ -45,4 +50,6 @@ next_section s (class_line x) = Class
 next_section s (def_line x parameters) = or_nowhere (option_map body_section (function_of x parameters))
 next_section s (return_line e) = Nowhere
 next_section s (end_line e c r) = Nowhere
+next_section s (count_line f vs e) = Nowhere
+next_section s (view_line sort shown) = Nowhere
 next_section s _ = within_section s

@@ -3,7 +3,7 @@ use Rattle.std.specs.Prelude.{◌≡◌, ℕ, ◌≤◌, max, Bool, true, false,
 use Rattle.spec_ast.specs.declared.fault.SpecReason.{SpecReason}
 use Rattle.spec_ast.specs.declared.fault.SpecReason.TheVariants.{S3, S4}
 use Rattle.spec_ast.specs.Raw as raw
-use Rattle.spec_ast.specs.Raw.{Item, class_line, def_line, return_line, end_line}
+use Rattle.spec_ast.specs.Raw.{Item, class_line, def_line, return_line, end_line, count_line, view_line}
 use Rattle.spec_ast.specs.Depth.{depth, trees_on}
 use Rattle.spec_lex.specs.Token.{Lexeme, open_behind, open_after}
 use Rattle.spec_lex.specs.Lines.{Line}
@@ -37,6 +37,8 @@ behind place (class_line x) = class_body
 behind place (def_line x parameters) = body_place (function_of x parameters)
 behind place (return_line e) = nowhere
 behind place (end_line e s r) = nowhere
+behind place (count_line f vs e) = nowhere
+behind place (view_line s shown) = nowhere
 behind place _ = within_place place
 
 -- the place of this line, and of indented ones behind it

@@ -1,13 +1,13 @@
 -- What is read keeps fitting what may be named, behind local names, variables and writes; so states keep their shapes.
 use Rattle.std.proofs.Common.{◌≡◌, ◌^◌, ◌<◌, ◌≤◌, ℕ, zero, suc, Bool, true, false, Option, Some, None, List, [], ◌∷◌, ◌++◌, map, arith, ap, sym, ◌∙◌, subst, refl}
-use Rattle.std.specs.Prelude.{slice_get, slice_index, slice_index_or, slice_set, All, if◌then◌else◌, ◌&&◌, option_map}
+use Rattle.std.specs.Prelude.{slice_get, slice_index, slice_index_or, slice_set, All, if◌then◌else◌, ◌&&◌, option_map, count_by, length}
 use Rattle.std.proofs.lemmas.List.{length-map, length-set, get_or-map}
 use Rattle.std.proofs.lemmas.List.Elements.{All-head, All-tail, All-map, All-set}
-use Rattle.spec_tree.specs.Plain.{Key, Tree, Trees, Field, Line, let_line, write_line, Transition, Spec}
-use Rattle.spec_tree.specs.Sorted.{Context, FieldSort, no_field, product, key_sizes, width_of, with_bounds, with_local, with_locals, IsSorted, AreLocals, AreLines, lets_of, sort_of, field_sorts, over_kernel, over_step, over_keys, behind_lines, IsField, IsResult, IsTransition, IsWellSorted, IsWidth, IsFieldSort, HasLimits, over_state}
+use Rattle.spec_tree.specs.Plain.{Key, Tree, Trees, Field, Line, let_line, write_line, Transition, CountProperty, Spec}
+use Rattle.spec_tree.specs.Sorted.{Context, FieldSort, no_field, product, key_sizes, width_of, with_bounds, with_local, with_locals, IsSorted, AreLocals, AreLines, lets_of, sort_of, field_sorts, over_kernel, over_step, over_keys, behind_lines, IsField, IsResult, IsTransition, IsWellSorted, IsWidth, IsFieldSort, HasLimits, over_state, over_outer}
 use Rattle.spec_tree.specs.Value.{Env, value, values, place_behind, holds, tuples, tuple_at, binding}
 use Rattle.spec_tree.specs.Shapes.{AreNumbers, AreBelow, AreEntries, IsState, IsMemory, Fits}
-use Rattle.spec_tree.specs.Meaning.{State, Memory, with_value, with_values, in_memory, in_step, entry_value, field_entries, abstraction, entry_set, after_lines, transition}
+use Rattle.spec_tree.specs.Meaning.{State, Memory, with_value, with_values, in_memory, in_state, in_step, between, is_counted, count_of, entry_value, field_entries, abstraction, entry_set, after_lines, transition}
 use Rattle.spec_tree.proofs.Widths.{value_below}
 use Rattle.spec_tree.proofs.Entries.{no_place, how_many, all_below, tuple_is}
 
@@ -156,3 +156,30 @@ entry_told s memory f field k h low =
     ap (λ l. slice_index l k) (found_at (field_entries s memory) s.fields f field h)
     ∙ get_or-map (entry_value s memory field) (tuples sizes) k [] 0 (omega (arith, low, how_many sizes))
     ∙ ap (entry_value s memory field) (tuple_is sizes k [] low)
+
+-- ---- step properties, counts and views
+
+pub outer_has : (s : Spec) → IsWellSorted s → (size : ℕ) → HasLimits (over_outer s size)
+outer_has s i size =
+    let h = state_has s i in
+    record { fields = h.fields; args = h.args; locals = h.locals }
+
+pub between_fits : (s : Spec) (before after : State) → IsState (field_sorts s) before → IsState (field_sorts s) after → Fits (over_step s []) (between before after)
+between_fits s before after h k = record { old = λ e. h; new = λ e. k; memory = λ e. cc; args = refl; locals = refl; bounds = refl }
+
+pub outer_fits : (s : Spec) (size n : ℕ) (state : State) → IsState (field_sorts s) state → n < size → Fits (over_outer s size) (binding (in_state state) (n ∷ []))
+outer_fits s size n state h l = record { old = λ e. h; new = λ e. cc; memory = λ e. cc; args = refl; locals = refl; bounds = (l, refl) }
+
+one_more : (t : Bool) (n m : ℕ) → n ≤ m → (if t then suc n else n) ≤ suc m
+one_more true n m h = omega (arith, h)
+one_more false n m h = omega (arith, h)
+
+few_of : {A : Type 0} (test : A → Bool) (xs : List A) → count_by test xs ≤ length xs
+few_of test [] = omega arith
+few_of test (x ∷ xs) = one_more (test x) (count_by test xs) (length xs) (few_of test xs)
+
+pub counted_few : (s : Spec) (c : CountProperty) (state : State) (f : ℕ) → count_of s c state f ≤ product c.bound
+counted_few s c state f =
+    let few = few_of (is_counted s c state f) (tuples c.bound) in
+    let all : length (tuples c.bound) ≡ product c.bound = how_many c.bound in
+    omega (arith, few, all)

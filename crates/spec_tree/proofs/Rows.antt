@@ -22,6 +22,7 @@ names =
       args = 8 ∷ 16 ∷ 64 ∷ 1 ∷ [];
       locals = 8 ∷ 4 ∷ [];
       bounds = [];
+      outer = 0;
       kernel = true;
       old = true;
       new = true;

@@ -1,9 +1,10 @@
 -- What a specification says of states: the invariant, the abstraction, the properties, a transition's step and the opening.
 -- From the refinement theorem of Nelson et al., Hyperkernel, SOSP 2017.
-use Rattle.std.specs.Prelude.{◌≡◌, ℕ, Bool, true, false, ◌&&◌, not, if◌then◌else◌, nat_eq, Option, Some, None, option_map, List, [], ◌∷◌, ◌++◌, map, All, slice_set, slice_index_or, position}
-use Rattle.spec_tree.specs.Plain.{Tree, Field, Named, Line, let_line, write_line, Transition, Spec}
-use Rattle.spec_tree.specs.Sorted.{Context, no_field, key_sizes, over_kernel, over_state, over_step, over_keys, with_local, with_locals, behind_lines}
-use Rattle.spec_tree.specs.Value.{Env, value, values, holds, place_behind, tuples, binding}
+use Rattle.std.specs.Prelude.{◌≡◌, ℕ, Bool, true, false, ◌&&◌, not, if◌then◌else◌, nat_eq, Option, Some, None, option_map, List, [], ◌∷◌, ◌++◌, map, All, slice_set, slice_index, slice_index_or, position, count_by}
+use Rattle.std.specs.List.{list_all}
+use Rattle.spec_tree.specs.Plain.{Tree, Field, Named, Line, let_line, write_line, Transition, CountProperty, Shown, View, Spec}
+use Rattle.spec_tree.specs.Sorted.{Context, no_field, key_sizes, over_kernel, over_state, over_step, over_outer, over_keys, entries_of, with_bounds, with_local, with_locals, behind_lines}
+use Rattle.spec_tree.specs.Value.{Env, value, values, holds, place_behind, below, tuples, binding}
 
 abbrev pub State : Type 0
 State = List (List ℕ)
@@ -93,6 +94,49 @@ abbrev pub meets_result : Option ℕ → Bool → ℕ → Bool
 meets_result (Some r) valid n = nat_eq n r
 meets_result None true n = nat_eq n 0
 meets_result None false n = not (nat_eq n 0)
+
+-- ---- step properties
+
+-- a step property reads the state before a transition by the old name, and its end state by the new one
+abbrev pub between : State → State → Env
+between before after = record { old = before; new = after; memory = []; args = []; locals = []; bounds = [] }
+
+abbrev pub step_holds : Spec → Named → State → State → Bool
+step_holds s k before after = named_holds (over_step s []) (between before after) k
+
+-- ---- counts
+
+-- what is read behind the parameter of a count or a view, which has this size, and behind local names
+abbrev pub behind_outer : Spec → ℕ → List Tree → State → ℕ → Env
+behind_outer s size locals state n = with_values (over_outer s size) (binding (in_state state) (n ∷ [])) locals
+
+-- the truth of a count at f and at a tuple of the counted variables
+abbrev pub is_counted : Spec → CountProperty → State → ℕ → List ℕ → Bool
+is_counted s c state f t =
+    holds
+    (value (with_bounds (with_locals (over_outer s (entries_of s c.field)) c.locals) c.bound)
+    (binding (behind_outer s (entries_of s c.field) c.locals state f) t) c.value)
+
+-- the number of tuples at which it is true
+abbrev pub count_of : Spec → CountProperty → State → ℕ → ℕ
+count_of s c state f = count_by (is_counted s c state f) (tuples c.bound)
+
+-- the field at every f below its size is that number
+abbrev pub count_holds : Spec → CountProperty → State → Bool
+count_holds s c state =
+    list_all (λ f. nat_eq (slice_index (slice_index_or state c.field []) f) (count_of s c state f)) (below (entries_of s c.field))
+
+-- ---- views
+
+-- what a view shows an observer at a tuple
+abbrev pub shown_at : Spec → View → State → ℕ → Shown → List ℕ → ℕ
+shown_at s v state d e t =
+    value (with_bounds (with_locals (over_outer s v.size) v.locals) e.sizes) (binding (behind_outer s v.size v.locals state d) t) e.value
+
+-- two states are alike for an observer: every expression has the same value in both, at every tuple
+abbrev pub alike : Spec → View → ℕ → State → State → Bool
+alike s v d left right =
+    list_all (λ e. list_all (λ t. nat_eq (shown_at s v left d e t) (shown_at s v right d e t)) (tuples e.sizes)) v.shown
 
 -- ---- the opening
 

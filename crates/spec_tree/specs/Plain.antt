@@ -42,7 +42,7 @@ pub record Field : Type 0 where
   pub width : ℕ
   pub value : Tree  -- the right side of its equation; the variables of the first places are the keys
 
--- an invariant or a property: its local names, each over the earlier ones, and its truth
+-- an invariant, a property or a step property: its local names, each over the earlier ones, and its truth
 pub record Named : Type 0 where
   pub name : List ℕ
   pub locals : List Tree
@@ -63,10 +63,36 @@ pub record Transition : Type 0 where
   pub result : Option Tree
   pub result_width : ℕ  -- 0 for a void handler
 
+-- a count: at each f below the size of the field's one key, the field is the number of the tuples at which the truth holds. The first
+-- variable is f, and the counted ones follow
+pub record CountProperty : Type 0 where
+  pub line : ℕ
+  pub name : List ℕ
+  pub field : ℕ
+  pub bound : List ℕ  -- the sizes of the counted variables
+  pub locals : List Tree
+  pub value : Tree
+
+-- what a view shows at all tuples of these sizes; of no size where it is one expression
+pub record Shown : Type 0 where
+  pub sizes : List ℕ
+  pub value : Tree
+
+-- a view: the first variable is the observer, and those of what is shown at all tuples follow
+pub record View : Type 0 where
+  pub line : ℕ
+  pub name : List ℕ
+  pub size : ℕ  -- observers are the numbers below it
+  pub locals : List Tree
+  pub shown : List Shown
+
 pub record Spec : Type 0 where
   pub fields : List Field
   pub equation_locals : List Tree  -- the local names of the equivalence function that read the kernel alone
   pub invariants : List Named
   pub properties : List Named
   pub transitions : List Transition
+  pub steps : List Named
+  pub counts : List CountProperty
+  pub views : List View
   pub objects : List ℕ  -- bytes

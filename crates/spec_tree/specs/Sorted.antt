@@ -1,5 +1,5 @@
 -- Well-sorted specifications: what every specification that the reader hands out is.
-use Rattle.std.specs.Prelude.{◌≡◌, ℕ, ◌+◌, ◌-◌, ◌*◌, ◌^◌, ◌<◌, ◌≤◌, Bool, true, false, Option, Some, None, List, [], ◌∷◌, ◌++◌, map, length, slice_get, slice_index, slice_index_or, All, sum_by}
+use Rattle.std.specs.Prelude.{◌≡◌, ℕ, zero, suc, ◌+◌, ◌-◌, ◌*◌, ◌^◌, ◌<◌, ◌≤◌, Bool, true, false, not, ◌&&◌, nat_eq, Option, Some, None, List, [], ◌∷◌, ◌++◌, map, length, drop, slice_get, slice_index, slice_index_or, All, sum_by}
 use Rattle.spec_ast.specs.declared.kind.UnKind.{UnKind}
 use Rattle.spec_ast.specs.declared.kind.UnKind.TheVariants.{Not}
 use Rattle.spec_ast.specs.declared.kind.BinKind.{BinKind}
@@ -8,7 +8,7 @@ use Rattle.spec_tree.specs.declared.expr.ResizeKind.{ResizeKind}
 use Rattle.spec_tree.specs.declared.expr.ResizeKind.TheVariants.{ZeroExt, SignExt, Extract}
 use Rattle.spec_tree.specs.declared.expr.StateName.{StateName}
 use Rattle.spec_tree.specs.declared.expr.StateName.TheVariants.{Old, New}
-use Rattle.spec_tree.specs.Plain.{Key, Tree, constant, argument, bound, local, entry, path, unary, binary, all_of, any_of, choose, resize, for_all, exists, Trees, no_trees, tree_and, Steps, no_steps, step_and, Field, Named, Line, let_line, write_line, Transition, Spec}
+use Rattle.spec_tree.specs.Plain.{Key, Tree, constant, argument, bound, local, entry, path, unary, binary, all_of, any_of, choose, resize, for_all, exists, Trees, no_trees, tree_and, Steps, no_steps, step_and, Field, Named, Line, let_line, write_line, Transition, CountProperty, Shown, View, Spec}
 
 -- the keys and the width of a field
 pub record FieldSort : Type 0 where
@@ -16,13 +16,15 @@ pub record FieldSort : Type 0 where
   pub width : ℕ
 
 -- what an expression may name: fields by their sorts, objects by their bytes, arguments and local names by their widths, variables by
--- their sizes; and whether it may read the kernel, the old and the new state
+-- their sizes, the first so many of which are the parameter of a count or a view; and whether it may read the kernel, the old and the new
+-- state
 pub record Context : Type 0 where
   pub fields : List FieldSort
   pub objects : List ℕ
   pub args : List ℕ
   pub locals : List ℕ
   pub bounds : List ℕ
+  pub outer : ℕ
   pub kernel : Bool
   pub old : Bool
   pub new : Bool
@@ -139,9 +141,9 @@ abbrev pub with_locals : Context → List Tree → Context
 with_locals c [] = c
 with_locals c (e ∷ es) = with_locals (with_local c e) es
 
--- the variables of a quantifier, behind those of the enclosing ones
+-- the variables of a quantifier, behind those of the enclosing ones; the parameter of a count or a view is of no nest
 abbrev pub AreVariables : Context → List ℕ → Type 0
-AreVariables c sizes = All IsSize sizes × IsNest (c.bounds ++ sizes)
+AreVariables c sizes = All IsSize sizes × IsNest (drop c.outer c.bounds ++ sizes)
 
 abbrev mutual
   -- the expression is well sorted
@@ -203,15 +205,20 @@ sort_of f = record { keys = f.keys; width = f.width }
 abbrev pub field_sorts : Spec → List FieldSort
 field_sorts s = map sort_of s.fields
 
--- an invariant and the equivalence function read the kernel, a property the old state, a transition of these widths both states
+-- an invariant and the equivalence function read the kernel, a property the old state, a transition of these widths both states; a step
+-- property too, which has no arguments
 abbrev pub over_kernel : Spec → Context
-over_kernel s = record { fields = field_sorts s; objects = s.objects; args = []; locals = []; bounds = []; kernel = true; old = false; new = false }
+over_kernel s = record { fields = field_sorts s; objects = s.objects; args = []; locals = []; bounds = []; outer = 0; kernel = true; old = false; new = false }
 
 abbrev pub over_state : Spec → Context
-over_state s = record { fields = field_sorts s; objects = s.objects; args = []; locals = []; bounds = []; kernel = false; old = true; new = false }
+over_state s = record { fields = field_sorts s; objects = s.objects; args = []; locals = []; bounds = []; outer = 0; kernel = false; old = true; new = false }
 
 abbrev pub over_step : Spec → List ℕ → Context
-over_step s widths = record { fields = field_sorts s; objects = s.objects; args = widths; locals = []; bounds = []; kernel = false; old = true; new = true }
+over_step s widths = record { fields = field_sorts s; objects = s.objects; args = widths; locals = []; bounds = []; outer = 0; kernel = false; old = true; new = true }
+
+-- a count and a view read the old state, and their parameter, which has this size and is the first variable
+abbrev pub over_outer : Spec → ℕ → Context
+over_outer s size = record (over_state s) { bounds = size ∷ []; outer = 1 }
 
 -- the right side of a field's equation, over its keys
 abbrev pub over_keys : Spec → Field → Context
@@ -256,6 +263,96 @@ pub record IsTransition (s : Spec) (t : Transition) : Type 0 where
   pub truth : width_of (behind_lines s t) t.valid ≡ 1
   pub result : IsResult (behind_lines s t) t.result_width t.result
 
+-- ---- counts and views
+
+-- the indices are these variables, so many from this place on, in their order
+abbrev pub are_bound : ℕ → ℕ → Trees → Bool
+are_bound k zero no_trees = true
+are_bound k (suc n) (tree_and (bound j w) es) = nat_eq j k && are_bound (suc k) n es
+are_bound k n es = false
+
+-- whether the local name at a place reads no state, by what is known of the earlier ones
+abbrev pub is_still_local : List Bool → ℕ → Bool
+is_still_local still k = slice_index_or still k false
+
+abbrev mutual
+  -- every read of a state is of an entry at the tuple of the counted variables, so many behind the parameter; local names read none
+  pub reads_tuple : List Bool → ℕ → Tree → Bool
+  reads_tuple still n (entry s f at) = are_bound 1 n at
+  reads_tuple still n (local k) = is_still_local still k
+  reads_tuple still n (path o base steps bytes) = read_tuples_in still n steps
+  reads_tuple still n (unary kind a) = reads_tuple still n a
+  reads_tuple still n (binary kind a b) = reads_tuple still n a && reads_tuple still n b
+  reads_tuple still n (all_of es) = read_tuples still n es
+  reads_tuple still n (any_of es) = read_tuples still n es
+  reads_tuple still n (choose t a b) = reads_tuple still n t && (reads_tuple still n a && reads_tuple still n b)
+  reads_tuple still n (resize kind a) = reads_tuple still n a
+  reads_tuple still n (for_all sizes a) = reads_tuple still n a
+  reads_tuple still n (exists sizes a) = reads_tuple still n a
+  reads_tuple still n _ = true
+
+  pub read_tuples : List Bool → ℕ → Trees → Bool
+  read_tuples still n no_trees = true
+  read_tuples still n (tree_and e es) = reads_tuple still n e && read_tuples still n es
+
+  pub read_tuples_in : List Bool → ℕ → Steps → Bool
+  read_tuples_in still n no_steps = true
+  read_tuples_in still n (step_and count stride e steps) = reads_tuple still n e && read_tuples_in still n steps
+
+abbrev mutual
+  -- it reads no state, and no local name that does
+  pub is_still : List Bool → Tree → Bool
+  is_still still (entry s f at) = false
+  is_still still (local k) = is_still_local still k
+  is_still still (path o base steps bytes) = are_still_in still steps
+  is_still still (unary kind a) = is_still still a
+  is_still still (binary kind a b) = is_still still a && is_still still b
+  is_still still (all_of es) = are_still still es
+  is_still still (any_of es) = are_still still es
+  is_still still (choose t a b) = is_still still t && (is_still still a && is_still still b)
+  is_still still (resize kind a) = is_still still a
+  is_still still (for_all sizes a) = is_still still a
+  is_still still (exists sizes a) = is_still still a
+  is_still still _ = true
+
+  pub are_still : List Bool → Trees → Bool
+  are_still still no_trees = true
+  are_still still (tree_and e es) = is_still still e && are_still still es
+
+  pub are_still_in : List Bool → Steps → Bool
+  are_still_in still no_steps = true
+  are_still_in still (step_and count stride e steps) = is_still still e && are_still_in still steps
+
+-- which local names read no state, behind these
+abbrev pub still_locals : List Bool → List Tree → List Bool
+still_locals still [] = still
+still_locals still (e ∷ es) = still_locals (still ++ is_still still e ∷ []) es
+
+-- how many entries a field has
+abbrev pub entries_of : Spec → ℕ → ℕ
+entries_of s f = product (key_sizes (slice_index_or (field_sorts s) f no_field).keys)
+
+-- a count's field has one key, and can hold the number of all tuples, which with its entries are few enough; each truth reads the state at
+-- its tuple alone
+pub record IsCount (s : Spec) (c : CountProperty) : Type 0 where
+  pub keyed : (key : Key) × (width : ℕ) × (slice_get (field_sorts s) c.field ≡ Some (record { keys = key ∷ []; width = width })) × (product c.bound < 2 ^ width)
+  pub sizes : All IsSize c.bound
+  pub small : product c.bound * entries_of s c.field ≤ 2 ^ 20
+  pub locals : AreLocals (over_outer s (entries_of s c.field)) c.locals
+  pub sorted : IsSorted (with_bounds (with_locals (over_outer s (entries_of s c.field)) c.locals) c.bound) c.value
+  pub truth : width_of (with_bounds (with_locals (over_outer s (entries_of s c.field)) c.locals) c.bound) c.value ≡ 1
+  pub alone : reads_tuple (still_locals [] c.locals) (length c.bound) c.value ≡ true
+
+-- what is shown at all tuples of its sizes
+pub record IsShown (c : Context) (e : Shown) : Type 0 where
+  pub variables : AreVariables c e.sizes
+  pub sorted : IsSorted (with_bounds c e.sizes) e.value
+
+pub record IsView (s : Spec) (v : View) : Type 0 where
+  pub size : IsSize v.size
+  pub locals : AreLocals (over_outer s v.size) v.locals
+  pub shown : All (IsShown (with_locals (over_outer s v.size) v.locals)) v.shown
+
 -- the specification is well sorted, and within the limits on index tuples, entries, handlers, widths and sizes
 pub record IsWellSorted (s : Spec) : Type 0 where
   pub equation_locals : AreLocals (over_kernel s) s.equation_locals
@@ -265,3 +362,6 @@ pub record IsWellSorted (s : Spec) : Type 0 where
   pub properties : All (IsNamed (over_state s)) s.properties
   pub transitions : All (IsTransition s) s.transitions
   pub handlers : length s.transitions ≤ 256
+  pub steps : All (IsNamed (over_step s [])) s.steps
+  pub counts : All (IsCount s) s.counts
+  pub views : All (IsView s) s.views

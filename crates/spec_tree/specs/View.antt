@@ -16,6 +16,9 @@ use Rattle.spec_tree.specs.declared.spec.Named.{Named}
 use Rattle.spec_tree.specs.declared.spec.Line.{Line}
 use Rattle.spec_tree.specs.declared.spec.Line.TheVariants.{Let, Write}
 use Rattle.spec_tree.specs.declared.spec.Transition.{Transition}
+use Rattle.spec_tree.specs.declared.spec.CountProperty.{CountProperty}
+use Rattle.spec_tree.specs.declared.spec.Shown.{Shown}
+use Rattle.spec_tree.specs.declared.spec.View.{View}
 use Rattle.spec_tree.specs.declared.spec.Spec.{Spec}
 
 abbrev pub size_of : Option ℕ → ℕ
@@ -122,6 +125,17 @@ view_transition t =
       result_width = t.result_width;
     }
 
+abbrev pub view_count : CountProperty → plain.CountProperty
+view_count c =
+    record { line = c.line; name = c.name; field = c.field; bound = c.bound; locals = view_locals c.body.locals; value = view_expr c.body.value }
+
+abbrev pub view_shown : Shown → plain.Shown
+view_shown s = record { sizes = s.sizes; value = view_expr s.value }
+
+abbrev pub view_view : View → plain.View
+view_view v =
+    record { line = v.line; name = v.name; size = v.size; locals = view_locals v.locals; shown = map view_shown v.shown }
+
 abbrev pub view_spec : Spec → plain.Spec
 view_spec s =
     record {
@@ -130,5 +144,8 @@ view_spec s =
       invariants = map view_named s.invariants;
       properties = map view_named s.properties;
       transitions = map view_transition s.transitions;
+      steps = map view_named s.steps;
+      counts = map view_count s.counts;
+      views = map view_view s.views;
       objects = s.objects;
     }

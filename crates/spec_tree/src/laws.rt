@@ -3,10 +3,10 @@
 ghost use Rattle.std.specs.Prelude.{◌≡◌, ◌<◌, ◌≤◌, ◌*◌, ◌+◌, ◌^◌, ◌∷◌, [], ℕ, List, Some, None, All, length, slice_get, slice_index, slice_index_or};
 ghost use Rattle.spec_tree.specs.Plain as plain;
 ghost use Rattle.spec_tree.specs.Plain.{Key, Tree, Trees, entry, write_line};
-ghost use Rattle.spec_tree.specs.Sorted.{Context, FieldSort, IsWidth, HasLimits, IsSorted, IsTransition, IsWellSorted, AreLocals, over_kernel, over_state, over_step, no_field, product, key_sizes, width_of, with_bounds, with_locals, field_sorts};
+ghost use Rattle.spec_tree.specs.Sorted.{Context, FieldSort, IsWidth, HasLimits, IsSorted, IsTransition, IsWellSorted, AreLocals, over_kernel, over_state, over_step, over_outer, no_field, product, key_sizes, width_of, with_bounds, with_locals, field_sorts};
 ghost use Rattle.spec_tree.specs.Value.{Env, value, values, place_behind, tuples, tuple_at, binding};
 ghost use Rattle.spec_tree.specs.Shapes.{Fits, AreNumbers, AreBelow, IsState, IsMemory};
-ghost use Rattle.spec_tree.specs.Meaning.{State, Memory, with_values, abstraction, entry_value, after_lines, transition};
+ghost use Rattle.spec_tree.specs.Meaning.{State, Memory, in_state, with_values, abstraction, entry_value, after_lines, transition, between, count_of};
 ghost use Rattle.spec_tree.specs.declared.expr.StateName.{StateName};
 
 /// The number of a well-sorted expression has the expression's width; and what is read keeps fitting behind the values of variables
@@ -24,6 +24,15 @@ pub fn widths_are_from_1_to_64()
     ensures kernel { (s : plain.Spec) → IsWellSorted s → HasLimits (over_kernel s) }
     ensures state { (s : plain.Spec) → IsWellSorted s → HasLimits (over_state s) }
     ensures step { (s : plain.Spec) → IsWellSorted s → (widths : List ℕ) → All IsWidth widths → HasLimits (over_step s widths) }
+    ensures outer { (s : plain.Spec) → IsWellSorted s → (size : ℕ) → HasLimits (over_outer s size) }
+{}
+
+/// What a step property, and what a count or a view reads behind its parameter, fits what it may name; and a count is at most the number of
+/// all its tuples.
+pub fn further_functions_read_states()
+    ensures step { (s : plain.Spec) (before after : State) → IsState (field_sorts s) before → IsState (field_sorts s) after → Fits (over_step s []) (between before after) }
+    ensures outer { (s : plain.Spec) (size n : ℕ) (state : State) → IsState (field_sorts s) state → n < size → Fits (over_outer s size) (binding (in_state state) (n ∷ [])) }
+    ensures counted { (s : plain.Spec) (c : plain.CountProperty) (state : State) (f : ℕ) → count_of s c state f ≤ product c.bound }
 {}
 
 /// There are as many index tuples as the product of the sizes, each index is below its size, and the k-th is known by

@@ -13,8 +13,8 @@ pub mod spec;
 pub use expr::{Expr, ExprList, Path, PathStep, ResizeKind, StateName, StepList};
 pub use sort::{SizeList, Sort, SortList};
 pub use spec::{
-    Body, Field, FieldList, Line, LineList, Named, NamedList, Spec, Transition, TransitionList,
-    Write,
+    Body, CountProperty, CountPropertyList, Field, FieldList, Line, LineList, Named, NamedList,
+    Shown, ShownList, Spec, Transition, TransitionList, View, ViewList, Write,
 };
 
 #[cfg(test)]

@@ -28,7 +28,7 @@ pub struct Body {
     pub value: Expr,
 }
 
-/// An invariant or a property, by its name without the prefix.
+/// An invariant, a property or a step property, by its name without the prefix.
 #[derive(Drop)]
 pub struct Named {
     pub name: Name,
@@ -71,6 +71,41 @@ pub struct Transition {
     pub result_width: u32,
 }
 
+/// A count: at each number below the size of the field's one key, the field is the number of the tuples at which the body holds. The first
+/// variable of the body is that number, and the counted ones follow.
+#[derive(Drop)]
+pub struct CountProperty {
+    /// The first physical line of its `def`, counted from 1.
+    pub line: u32,
+    /// Without the prefix.
+    pub name: Name,
+    /// The field by its place in the class.
+    pub field: u32,
+    /// The sizes of the counted variables.
+    pub bound: SizeList,
+    pub body: Body,
+}
+
+/// What a view shows at all tuples of these sizes; of no size where it is one expression.
+#[derive(Drop)]
+pub struct Shown {
+    pub sizes: SizeList,
+    pub value: Expr,
+}
+
+/// A view: what an observer sees of a state. The first variable is the observer, and those of what is shown at all tuples follow.
+#[derive(Drop)]
+pub struct View {
+    /// The first physical line of its `def`, counted from 1.
+    pub line: u32,
+    /// Without the prefix.
+    pub name: Name,
+    /// Observers are the numbers below it.
+    pub size: u32,
+    pub locals: ExprList,
+    pub shown: ShownList,
+}
+
 /// A specification.
 #[derive(Drop)]
 pub struct Spec {
@@ -80,6 +115,10 @@ pub struct Spec {
     pub invariants: NamedList,
     pub properties: NamedList,
     pub transitions: TransitionList,
+    /// Step properties, which read the state before a transition and its end state.
+    pub steps: NamedList,
+    pub counts: CountPropertyList,
+    pub views: ViewList,
     /// Bytes of each object of the kernel.
     pub objects: SizeList,
 }
@@ -120,7 +159,7 @@ impl FieldList {
     }
 }
 
-/// Invariants or properties in the order of the text.
+/// Invariants, properties or step properties in the order of the text.
 #[derive(Drop)]
 pub struct NamedList {
     items: Vec<Named>,
@@ -222,6 +261,114 @@ impl TransitionList {
 
     /// The transitions as a slice.
     pub fn as_slice(&self) -> &[Transition]
+        ensures { result.now ≡ self.now }
+    {
+        self.items.as_slice()
+    }
+}
+
+/// Counts in the order of the text.
+#[derive(Drop)]
+pub struct CountPropertyList {
+    items: Vec<CountProperty>,
+}
+
+impl Model for CountPropertyList {
+    ghost use Rattle.std.specs.Prelude.{List};
+    ghost use Rattle.std.specs.Coded.{codes};
+    ghost use Rattle.spec_tree.specs.contracts.expr.Expr as e;
+    ghost use Rattle.spec_tree.specs.contracts.expr.ExprList as es;
+    ghost use Rattle.spec_tree.specs.declared.spec.CountProperty.{CountProperty};
+
+    ghost Value = { List CountProperty };
+
+    ghost coded = { Prim.hlevel (codes, e.the_row.coded, es.the_row.coded) };
+
+    ghost view = { λ l. l.items.items };
+}
+
+impl CountPropertyList {
+    /// The list of these counts.
+    pub fn of(items: Vec<CountProperty>) -> CountPropertyList
+        ensures { result ≡ items.items }
+    {
+        CountPropertyList { items }
+    }
+
+    /// The counts as a slice.
+    pub fn as_slice(&self) -> &[CountProperty]
+        ensures { result.now ≡ self.now }
+    {
+        self.items.as_slice()
+    }
+}
+
+/// What a view shows, in the order of the text.
+#[derive(Drop)]
+pub struct ShownList {
+    items: Vec<Shown>,
+}
+
+impl Model for ShownList {
+    ghost use Rattle.std.specs.Prelude.{List};
+    ghost use Rattle.std.specs.Coded.{codes};
+    ghost use Rattle.spec_tree.specs.contracts.expr.Expr as e;
+    ghost use Rattle.spec_tree.specs.contracts.expr.ExprList as es;
+    ghost use Rattle.spec_tree.specs.declared.spec.Shown.{Shown};
+
+    ghost Value = { List Shown };
+
+    ghost coded = { Prim.hlevel (codes, e.the_row.coded, es.the_row.coded) };
+
+    ghost view = { λ l. l.items.items };
+}
+
+impl ShownList {
+    /// The list of these parts.
+    pub fn of(items: Vec<Shown>) -> ShownList
+        ensures { result ≡ items.items }
+    {
+        ShownList { items }
+    }
+
+    /// The parts as a slice.
+    pub fn as_slice(&self) -> &[Shown]
+        ensures { result.now ≡ self.now }
+    {
+        self.items.as_slice()
+    }
+}
+
+/// Views in the order of the text.
+#[derive(Drop)]
+pub struct ViewList {
+    items: Vec<View>,
+}
+
+impl Model for ViewList {
+    ghost use Rattle.std.specs.Prelude.{List};
+    ghost use Rattle.std.specs.Coded.{codes};
+    ghost use Rattle.spec_tree.specs.contracts.expr.Expr as e;
+    ghost use Rattle.spec_tree.specs.contracts.expr.ExprList as es;
+    ghost use Rattle.spec_tree.specs.declared.spec.View.{View};
+
+    ghost Value = { List View };
+
+    ghost coded = { Prim.hlevel (codes, e.the_row.coded, es.the_row.coded) };
+
+    ghost view = { λ l. l.items.items };
+}
+
+impl ViewList {
+    /// The list of these views.
+    pub fn of(items: Vec<View>) -> ViewList
+        ensures { result ≡ items.items }
+    {
+        ViewList { items }
+    }
+
+    /// The views as a slice.
+    pub fn as_slice(&self) -> &[View]
         ensures { result.now ≡ self.now }
     {
         self.items.as_slice()

@@ -69,6 +69,40 @@ fn lists_of_a_specification_are_lent_as_they_came(rt: HostRuntime) -> Result<(),
 }
 
 #[test]
+fn counts_and_views_are_lent_as_they_came(rt: HostRuntime) -> Result<(), AllocError> {
+    let alloc = rt.alloc();
+    let mut counts = Vec::new(alloc);
+    counts.push(CountProperty {
+        line: 9,
+        name: name(alloc)?,
+        field: 1,
+        bound: SizeList::of(vec![in alloc; 2]?),
+        body: Body {
+            locals: no_locals(alloc),
+            value: Expr::Const(1, 1),
+        },
+    })?;
+    assert_eq!(rt; CountPropertyList::of(counts).as_slice()[0].line, 9);
+    let mut shown = Vec::new(alloc);
+    shown.push(Shown {
+        sizes: SizeList::of(Vec::new(alloc)),
+        value: Expr::Bound(0, 8),
+    })?;
+    let shown = ShownList::of(shown);
+    assert_eq!(rt; shown.as_slice().len(), 1);
+    let mut views = Vec::new(alloc);
+    views.push(View {
+        line: 11,
+        name: name(alloc)?,
+        size: 2,
+        locals: no_locals(alloc),
+        shown,
+    })?;
+    assert_eq!(rt; ViewList::of(views).as_slice()[0].size, 2);
+    Ok(())
+}
+
+#[test]
 fn steps_are_kept_in_their_order(rt: HostRuntime) -> Result<(), AllocError> {
     let alloc = rt.alloc();
     let index = Expr::Bin(
