@@ -1,13 +1,13 @@
 //! What is known of a text before its lines are judged.
 
-ghost use Rattle.std.specs.Prelude.{◌≡◌, [], IfOk};
+ghost use Rattle.std.specs.Prelude.{◌≡◌, [], map, IfOk};
 ghost use Rattle.spec_ast.specs.View.{view_lines};
 ghost use Rattle.spec_kernel.specs.Seen.{kernel_in};
 ghost use Rattle.spec_scope.specs.View.{view_scope};
 ghost use Rattle.spec_lines.specs.Behind as definition;
 ghost use Rattle.spec_lines.specs.Faults as faults;
 ghost use Rattle.spec_lines.specs.Lines.{strays_in};
-ghost use Rattle.spec_lines.specs.View.{view_fore, view_here, AreHeads, AreHeadsOf};
+ghost use Rattle.spec_lines.specs.View.{view_fore, view_here, view_subject, AreHeads, AreHeadsOf};
 ghost use Rattle.spec_lines.specs.Whole.{hooks_of as hooks_in, equated_from as equated_in, AreStrays};
 
 use spec_ast::RawLine;
@@ -15,7 +15,8 @@ use spec_kernel::KernelNames;
 use spec_lines::equated::Equated;
 use spec_lines::faults::Text;
 use spec_lines::fore::{FieldHead, Fore, fore_of};
-use spec_lines::here::{Here, start};
+use spec_lines::here::{Here, Subject, start};
+use spec_lines::subject::subjects_of;
 use spec_lines::passes::{equated_from, hooks_of};
 use spec_scope::{FieldTable, NameTable, Scope};
 use spec_strays::strays_of;
@@ -38,13 +39,19 @@ fn empty_scope<'s>(alloc: Global, kernel: &'s KernelNames<'s>) -> Scope<'s>
         fields: FieldTable::new(alloc),
         top: NameTable::new(alloc),
         inner: NameTable::new(alloc),
+        outer: None,
     }
 }
 
-/// The place of the first line, by the fields of the text.
-fn begun_by<'s>(alloc: Global, kernel: &'s KernelNames<'s>, fore: Fore<'s>) -> Begun<'s>
+/// The place of the first line, by the fields of the text and what is said of the parameters of its counts and views.
+fn begun_by<'s>(
+    alloc: Global,
+    kernel: &'s KernelNames<'s>,
+    fore: Fore<'s>,
+    subjects: Vec<Subject<'s>>,
+) -> Begun<'s>
     requires { AreHeads fore }
-    ensures here { view_here result.here ≡ definition.start (definition.scope_of (kernel_in kernel.now) fore.entry.scope.fields) }
+    ensures here { view_here result.here ≡ definition.start (definition.scope_of (kernel_in kernel.now) fore.entry.scope.fields) (map view_subject subjects.items) }
     ensures heads { AreHeadsOf result.here.scope.fields result.heads.items }
 {
     let heads = fore.heads;
@@ -54,9 +61,10 @@ fn begun_by<'s>(alloc: Global, kernel: &'s KernelNames<'s>, fore: Fore<'s>) -> B
         fields: named.fields,
         top: NameTable::new(alloc),
         inner: NameTable::new(alloc),
+        outer: None,
     };
     Begun {
-        here: start(alloc, scope),
+        here: start(alloc, scope, subjects),
         heads,
     }
 }
@@ -71,7 +79,8 @@ pub fn begin<'s>(
     ensures heads { IfOk result (λ b. AreHeadsOf b.here.scope.fields b.heads.items) }
 {
     let fore = fore_of(alloc, empty_scope(alloc, kernel), lines)?;
-    Ok(begun_by(alloc, kernel, fore))
+    let subjects = subjects_of(alloc, lines)?;
+    Ok(begun_by(alloc, kernel, fore, subjects))
 }
 
 /// What the faults of a line depend on beside where it stands.

@@ -8,7 +8,10 @@ ghost use Rattle.spec_lines.specs.Whole.{spec_with};
 
 use spec_kernel::KernelNames;
 use spec_lines::made::Made;
-use spec_tree::{ExprList, Field, FieldList, NamedList, SizeList, Spec, TransitionList};
+use spec_tree::{
+    CountPropertyList, ExprList, Field, FieldList, NamedList, SizeList, Spec, TransitionList,
+    ViewList,
+};
 use std::alloc::{AllocError, Global};
 
 /// The same number. None that was read is too large; one that were would be answered as want of memory.
@@ -57,6 +60,9 @@ pub fn spec_of(alloc: Global, kernel: &KernelNames<'_>, made: Made) -> Result<Sp
         invariants: NamedList::of(made.invariants),
         properties: NamedList::of(made.properties),
         transitions: TransitionList::of(made.transitions),
+        steps: NamedList::of(made.steps),
+        counts: CountPropertyList::of(made.counts),
+        views: ViewList::of(made.views),
         objects,
     })
 }

@@ -123,7 +123,7 @@ pub fn callee_at(word: &[u8]) -> Option<Callee>
 
 /// `[ v , .. ] ,`
 #[tactic(auto, using(crate::proofs::Lists::bound_steps))]
-fn bound_at<'t>(
+pub fn bound_at<'t>(
     alloc: Global,
     tokens: &'t [Token<'t>],
 ) -> Result<(NameList, &'t [Token<'t>]), PartStop>

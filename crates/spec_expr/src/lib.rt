@@ -13,6 +13,7 @@ mod operator;
 pub mod stop;
 pub mod word;
 
+pub use call::bound_at;
 pub use depth::{Bounded, MOST_DEPTH};
 pub use expr::{arguments_at, expr_at};
 pub use front::{name_at, names_at, number_at, number_comma_at, past, strip};

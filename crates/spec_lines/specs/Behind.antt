@@ -1,16 +1,18 @@
 -- What a line makes of the names that may be used, for the lines behind it.
-use Rattle.std.specs.Prelude.{ℕ, ◌+◌, Bool, true, false, ◌&&◌, if◌then◌else◌, nat_le, Option, Some, None, option_map, List, [], ◌∷◌, ◌++◌, codes, slice_get}
+use Rattle.std.specs.Prelude.{ℕ, ◌+◌, Bool, true, false, ◌&&◌, ◌||◌, if◌then◌else◌, nat_le, Option, Some, None, option_map, option_and_then, List, [], ◌∷◌, ◌++◌, drop, codes, slice_get}
 use Rattle.spec_ast.specs.declared.raw.RawSort.{RawSort}
-use Rattle.spec_ast.specs.Raw.{Tree, Item, Line, sort_line, constant_line, hook_line, class_line, field_line, def_line, var_line, let_line, copy_line, write_line, return_line, end_line}
+use Rattle.spec_ast.specs.Raw.{Tree, Item, Line, sort_line, constant_line, hook_line, class_line, field_line, def_line, var_line, let_line, copy_line, write_line, return_line, end_line, count_line, view_line}
 use Rattle.spec_tree.specs.declared.expr.StateName.TheVariants.{Old, New}
 use Rattle.spec_names.specs.Kernel.{Name, ValueType, number, address, Kernel, function_place, function_named}
 use Rattle.spec_names.specs.Kernel as kernel
-use Rattle.spec_read.specs.Places.{Function, equivalence, invariant, property, handler, function_of}
+use Rattle.spec_tree.specs.Plain.{Key}
+use Rattle.spec_tree.specs.Sorted.{FieldSort}
+use Rattle.spec_read.specs.Places.{Function, equivalence, invariant, property, step, count, view, handler, function_of}
 use Rattle.spec_scope.specs.declared.meaning.Kind.{Kind}
 use Rattle.spec_scope.specs.declared.meaning.Kind.TheVariants.{Truth, Number}
 use Rattle.spec_scope.specs.declared.meaning.Meaning.{Meaning}
 use Rattle.spec_scope.specs.declared.meaning.Meaning.TheVariants as means
-use Rattle.spec_scope.specs.Scope.{Names, with_name, is_among, Declared, with_field, Scope, own}
+use Rattle.spec_scope.specs.Scope.{Names, with_name, is_among, Declared, with_field, Scope, outer_names, field_sort, own}
 use Rattle.spec_scope.specs.Taking.{chain}
 use Rattle.spec_scope.specs.Tests.{somewhere, is_read}
 use Rattle.spec_lines.specs.Sorts.{sort_for, key_for, field_sort_for, cut, entries_of, sort_meaning, variable_meaning}
@@ -21,6 +23,12 @@ pub record Head : Type 0 where
   pub name : Name
   pub kind : Option Function
   pub place : Option ℕ
+
+-- what the return line of a count or a view says of the sort of its parameter: the key of a field, or a sort
+pub data Subject where
+  by_field : Name → Subject
+  by_sort : RawSort → Subject
+  by_none : Subject
 
 -- where a line stands: what may be named there, and what the lines before it leave
 pub record Here : Type 0 where
@@ -33,6 +41,7 @@ pub record Here : Type 0 where
   pub class_names : List Name  -- the fields of the class that goes on
   pub entries : ℕ  -- of all fields, to one more than the limit
   pub handlers : ℕ
+  pub ahead : List Subject  -- of the counts and views behind it
 
 -- ---- functions
 
@@ -47,6 +56,16 @@ is_equivalence _ = false
 abbrev pub is_handler : Option Function → Bool
 is_handler (Some handler) = true
 is_handler _ = false
+
+abbrev pub is_count : Option Function → Bool
+is_count (Some (count x)) = true
+is_count _ = false
+
+-- a count or a view has a parameter that is bound in the whole function
+abbrev pub has_outer : Option Function → Bool
+has_outer (Some (count x)) = true
+has_outer (Some (view x)) = true
+has_outer _ = false
 
 abbrev pub one_handler : Option Function → ℕ
 one_handler (Some handler) = 1
@@ -78,13 +97,85 @@ abbrev pub handler_names : List Name → List ValueType → Names
 handler_names [] types = []
 handler_names (x ∷ xs) types = arguments types ((x, means.State Old) ∷ []) 0 xs
 
--- what the parameters mean
-abbrev pub parameter_names : Option Function → List Name → List ValueType → Names
-parameter_names (Some equivalence) xs types = (codes "kernel", means.Kernel) ∷ (codes "state", means.State Old) ∷ []
-parameter_names (Some (invariant x)) xs types = (codes "kernel", means.Kernel) ∷ []
-parameter_names (Some (property x)) xs types = (codes "state", means.State Old) ∷ []
-parameter_names (Some handler) xs types = handler_names xs types
-parameter_names None xs types = []
+-- the second parameter of a count or a view, of this width
+abbrev pub with_outer : List Name → Option ℕ → Names → Names
+with_outer (x ∷ y ∷ xs) w names = with_name names y (means.Outer w)
+with_outer xs w names = names
+
+abbrev pub state_names : Names
+state_names = (codes "state", means.State Old) ∷ []
+
+-- what the parameters mean, where that of a count or a view has this width
+abbrev pub parameter_names : Option Function → List Name → List ValueType → Option ℕ → Names
+parameter_names (Some equivalence) xs types w = (codes "kernel", means.Kernel) ∷ (codes "state", means.State Old) ∷ []
+parameter_names (Some (invariant x)) xs types w = (codes "kernel", means.Kernel) ∷ []
+parameter_names (Some (property x)) xs types w = (codes "state", means.State Old) ∷ []
+parameter_names (Some (step x)) xs types w = (codes "old", means.State Old) ∷ (codes "new", means.State New) ∷ []
+parameter_names (Some (count x)) xs types w = with_outer xs w state_names
+parameter_names (Some (view x)) xs types w = with_outer xs w state_names
+parameter_names (Some handler) xs types w = handler_names xs types
+parameter_names None xs types w = []
+
+-- the second of the names
+abbrev pub second_of : List Name → Option Name
+second_of (x ∷ y ∷ xs) = Some y
+second_of xs = None
+
+-- the parameter that is bound in the whole function
+abbrev pub outer_of : Option Function → List Name → List Name
+outer_of f xs = if has_outer f then outer_names (second_of xs) else []
+
+-- ---- the sort of the parameter of a count or a view
+
+abbrev pub only_key : List Key → Option Key
+only_key (key ∷ []) = Some key
+only_key keys = None
+
+abbrev pub field_key : Option FieldSort → Option Key
+field_key None = None
+field_key (Some sort) = only_key sort.keys
+
+-- what a line says of it, by what later lines say: only lines of the same function are looked at
+abbrev pub subject_at : Item → Subject → Subject
+subject_at (count_line f vs e) later = by_field f
+subject_at (view_line sort shown) later = by_sort sort
+subject_at (def_line x xs) later = by_none
+subject_at _ later = later
+
+abbrev pub subject_in : List Line → Subject
+subject_in [] = by_none
+subject_in (l ∷ ls) = subject_at l.item (subject_in ls)
+
+-- the `def` of a count or a view
+abbrev pub begins_outer : Item → Bool
+begins_outer (def_line x xs) = has_outer (function_of x xs)
+begins_outer _ = false
+
+-- those of all counts and views, in the order of the text
+abbrev pub subjects_of : List Line → List Subject
+subjects_of [] = []
+subjects_of (l ∷ ls) = if begins_outer l.item then subject_in ls ∷ subjects_of ls else subjects_of ls
+
+abbrev pub first_subject : List Subject → Subject
+first_subject [] = by_none
+first_subject (a ∷ ahead) = a
+
+-- the index sort of the parameter, by the names of the top; none where the return line names none
+abbrev pub subject_key : Scope → Subject → Option Key
+subject_key s (by_field f) = field_key (field_sort s f)
+subject_key s (by_sort sort) = key_for (record s { inner = [] }) sort
+subject_key s by_none = None
+
+-- the width of the parameter of the function that begins
+abbrev pub outer_width : Here → Option Function → Option ℕ
+outer_width h f = if has_outer f then option_map (λ key. key.width) (subject_key h.scope (first_subject h.ahead)) else None
+
+-- one fewer, behind the `def` of a count or a view
+abbrev pub one_outer : Option Function → ℕ
+one_outer f = if has_outer f then 1 else 0
+
+abbrev pub ahead_behind : Option Function → List Subject → List Subject
+ahead_behind f ahead = if has_outer f then drop 1 ahead else ahead
 
 -- ---- local names
 
@@ -98,11 +189,15 @@ abbrev pub let_kind : Scope → Tree → Option Kind
 let_kind s e = within (own s e)
 
 abbrev pub reads_state : Scope → Tree → Bool
-reads_state s e = somewhere (is_read s) [] e
+reads_state s e = somewhere (is_read s) s.outer e
 
 -- a local name of the equivalence function that reads the state has no place
 abbrev pub skips : Here → Tree → Bool
 skips h e = is_equivalence (kind_of h.head) && reads_state h.scope e
+
+-- a local name of the equivalence function or of a count that reads the state is marked so
+abbrev pub marks : Here → Tree → Bool
+marks h e = (is_equivalence (kind_of h.head) || is_count (kind_of h.head)) && reads_state h.scope e
 
 -- ---- names of the top
 
@@ -120,7 +215,7 @@ named_top s item = record s { top = top_behind s item }
 
 -- a function ends with its return line, and where a line of the top stands
 abbrev pub at_top : Here → Item → Here
-at_top h item = record h { scope = record (named_top h.scope item) { inner = [] }; head = None }
+at_top h item = record h { scope = record (named_top h.scope item) { inner = []; outer = [] }; head = None }
 
 abbrev pub with_inner : Here → Name → Meaning → Here
 with_inner h x m = record h { scope = record h.scope { inner = with_name h.scope.inner x m } }
@@ -141,13 +236,15 @@ in_body h line x parameters =
     record h {
       scope = record h.scope {
         top = with_name h.scope.top x means.Nothing;
-        inner = parameter_names (function_of x parameters) parameters (types_of (function_named h.scope.kernel x));
+        inner = parameter_names (function_of x parameters) parameters (types_of (function_named h.scope.kernel x)) (outer_width h (function_of x parameters));
+        outer = outer_of (function_of x parameters) parameters;
       };
       head = Some (record { line = line; name = x; kind = function_of x parameters; place = function_place h.scope.kernel x });
       result = result_of (function_named h.scope.kernel x);
       lets = 0;
       copied = false;
       handlers = h.handlers + one_handler (function_of x parameters);
+      ahead = ahead_behind (function_of x parameters) h.ahead;
     }
 
 abbrev pub lets_behind : ℕ → Bool → ℕ
@@ -155,7 +252,7 @@ lets_behind n skipped = if skipped then n else n + 1
 
 abbrev pub at_let : Here → Name → Tree → Here
 at_let h x e =
-    record (with_inner h x (means.Local h.lets (let_kind h.scope e) (skips h e))) { lets = lets_behind h.lets (skips h e) }
+    record (with_inner h x (means.Local h.lets (let_kind h.scope e) (marks h e))) { lets = lets_behind h.lets (skips h e) }
 
 -- behind a line
 abbrev pub behind : Here → ℕ → Item → Here
@@ -171,6 +268,8 @@ behind h line (copy_line x o) = record (with_inner h x (means.State New)) { copi
 behind h line (write_line c f at e) = h
 behind h line (return_line e) = record h { head = None }
 behind h line (end_line e c r) = record h { head = None }
+behind h line (count_line f vs e) = record h { head = None }
+behind h line (view_line sort shown) = record h { head = None }
 
 -- ---- the fields of the text
 
@@ -204,14 +303,15 @@ fore_from f [] = f
 fore_from f (l ∷ ls) = fore_from (fore_behind f l.line l.item) ls
 
 abbrev pub scope_of : Kernel → List Declared → Scope
-scope_of k declared = record { kernel = k; fields = declared; top = []; inner = [] }
+scope_of k declared = record { kernel = k; fields = declared; top = []; inner = []; outer = [] }
 
 abbrev pub fields_of : Kernel → List Line → List Declared
 fields_of k raw = (fore_from (record { scope = scope_of k []; classes = 0 }) raw).scope.fields
 
 -- before the first line
-abbrev pub start : Scope → Here
-start s = record { scope = s; head = None; result = None; lets = 0; copied = false; classes = 0; class_names = []; entries = 0; handlers = 0 }
+abbrev pub start : Scope → List Subject → Here
+start s ahead =
+    record { scope = s; head = None; result = None; lets = 0; copied = false; classes = 0; class_names = []; entries = 0; handlers = 0; ahead = ahead }
 
 abbrev pub begin : Kernel → List Line → Here
-begin k raw = start (scope_of k (fields_of k raw))
+begin k raw = start (scope_of k (fields_of k raw)) (subjects_of raw)

@@ -1,11 +1,11 @@
 -- Why a line is refused: each reason as one test of a line, where it stands and in its text.
-use Rattle.std.specs.Prelude.{ℕ, ◌+◌, ◌-◌, ◌^◌, Bool, true, false, not, ◌&&◌, ◌||◌, if◌then◌else◌, nat_lt, nat_le, Option, Some, None, is_some, is_none, List, [], ◌∷◌, length, replicate, slice_set}
-use Rattle.std.specs.List.{list_any}
+use Rattle.std.specs.Prelude.{ℕ, ◌+◌, ◌-◌, ◌^◌, Bool, true, false, not, ◌&&◌, ◌||◌, if◌then◌else◌, nat_lt, nat_le, Option, Some, None, is_some, is_none, List, [], ◌∷◌, length, map, ◌*◌, replicate, slice_set, bytes_eq}
+use Rattle.std.specs.List.{list_all, list_any}
 use Rattle.spec_ast.specs.declared.raw.RawSort.{RawSort}
 use Rattle.spec_ast.specs.declared.raw.RawSort.TheVariants.{Named}
 use Rattle.spec_ast.specs.declared.fault.SpecReason.{SpecReason}
-use Rattle.spec_ast.specs.declared.fault.SpecReason.TheVariants.{S5, S6, S7, S8, S9, S10, S11, S12, S13, S14, S15}
-use Rattle.spec_ast.specs.Raw.{Tree, literal, named, unary, binary, choose, Trees, Item, sort_line, constant_line, hook_line, class_line, field_line, def_line, var_line, let_line, copy_line, write_line, return_line, end_line}
+use Rattle.spec_ast.specs.declared.fault.SpecReason.TheVariants.{S5, S6, S7, S8, S9, S10, S11, S12, S13, S14, S15, S16, S17}
+use Rattle.spec_ast.specs.Raw.{Tree, literal, named, read, read_at, unary, binary, choose, for_all, Trees, no_trees, tree_and, Shown, Item, sort_line, constant_line, hook_line, class_line, field_line, def_line, var_line, let_line, copy_line, write_line, return_line, end_line, count_line, view_line}
 use Rattle.spec_ast.specs.Depth.{trees_on}
 use Rattle.spec_tree.specs.declared.expr.StateName.TheVariants.{New}
 use Rattle.spec_tree.specs.Plain as tree
@@ -20,10 +20,10 @@ use Rattle.spec_scope.specs.declared.meaning.Meaning.{Meaning}
 use Rattle.spec_scope.specs.declared.meaning.Meaning.TheVariants.{Sort, State}
 use Rattle.spec_scope.specs.Scope.{Names, meaning_of, is_among, Scope, meaning, field_place, field_sort, own}
 use Rattle.spec_scope.specs.Free.{is_constant, is_number_un, is_arithmetic}
-use Rattle.spec_scope.specs.Taking.{chain, one, take, take_keys, no_keys}
-use Rattle.spec_scope.specs.Tests.{somewhere, is_unknown, is_state, are_new, is_rebound, is_no_leaf, is_wide}
+use Rattle.spec_scope.specs.Taking.{chain, one, take, take_keys, no_keys, over}
+use Rattle.spec_scope.specs.Tests.{somewhere, is_unknown, is_state, is_state_local, are_new, is_rebound, is_no_leaf, is_wide, is_unsorted, tuples_of}
 use Rattle.spec_lines.specs.Sorts.{sort_for, key_for, field_sort_for, entries_of}
-use Rattle.spec_lines.specs.Behind.{Here, kind_of, is_equivalence, is_handler, let_kind}
+use Rattle.spec_lines.specs.Behind.{Here, kind_of, is_equivalence, is_handler, let_kind, field_key}
 use Rattle.spec_lines.specs.Equations.{Equation, is_old, conjuncts, equation_in, key_names, equated_by, is_once}
 
 -- what the faults of a line depend on beside where it stands: which functions come to a declared one that is neither a listed intrinsic
@@ -32,9 +32,20 @@ pub record Text : Type 0 where
   pub strays : Name → Bool
   pub equated : List (Option ℕ)
 
+-- an expression under names is tested as the quantifier over them is
+abbrev pub under : List Name → Tree → Tree
+under [] e = e
+under (x ∷ xs) e = for_all (x ∷ xs) e
+
+-- the expressions that a line is tested by
+abbrev pub tested_on : Item → List Tree
+tested_on (count_line f vs e) = under vs e ∷ []
+tested_on (view_line sort shown) = map (λ x. under x.names x.value) shown
+tested_on item = trees_on item
+
 -- a test of an expression's parts holds somewhere on the line
-abbrev pub on_line : (List Name → Tree → Bool) → Item → Bool
-on_line test item = list_any (somewhere test []) (trees_on item)
+abbrev pub on_line : Scope → (List Name → Tree → Bool) → Item → Bool
+on_line s test item = list_any (somewhere test s.outer) (tested_on item)
 
 -- ---- an unknown name, or one that is not what its place asks for
 
@@ -58,10 +69,12 @@ is_unknown_line s (hook_line x) = not (is_void_declared (function_named s.kernel
 is_unknown_line s (copy_line x o) = not (is_old (meaning s o))
 is_unknown_line s (write_line c f at e) = not (is_new (meaning s c)) || is_none (field_place s f)
 is_unknown_line s (end_line e c r) = not (is_state (meaning s c))
+is_unknown_line s (count_line f vs e) = is_none (field_place s f)
+is_unknown_line s (view_line sort shown) = names_no_sort s sort
 is_unknown_line s _ = false
 
 abbrev pub is_s5 : Here → Item → Bool
-is_s5 h item = is_unknown_line h.scope item || on_line (is_unknown h.scope) item
+is_s5 h item = is_unknown_line h.scope item || on_line h.scope (is_unknown h.scope) item
 
 -- ---- a name that is defined twice, a second class, a second copy line, a variable that is bound already
 
@@ -84,12 +97,12 @@ is_second h (copy_line x o) = is_taken h.scope.inner x || h.copied
 is_second h _ = false
 
 abbrev pub is_s6 : Here → Item → Bool
-is_s6 h item = is_second h item || on_line is_rebound item
+is_s6 h item = is_second h item || on_line h.scope is_rebound item
 
 -- ---- a kernel path that is no integer leaf
 
 abbrev pub is_s8 : Here → Item → Bool
-is_s8 h item = on_line (is_no_leaf h.scope) item
+is_s8 h item = on_line h.scope (is_no_leaf h.scope) item
 
 -- ---- a width or sort that does not fit
 
@@ -99,7 +112,7 @@ fits s b kind e = is_some (take s b kind e)
 -- an expression fits the place that a local name has
 abbrev pub fits_let : Scope → Option Kind → Tree → Bool
 fits_let s None e = false
-fits_let s (Some kind) e = fits s [] kind e
+fits_let s (Some kind) e = fits s s.outer kind e
 
 -- the indices of a write, one for each key
 abbrev pub written_at : Scope → List Key → Option Trees → Option tree.Trees
@@ -158,6 +171,20 @@ values_from s values (e ∷ es) = chain (value_put s values e (equation_in s e))
 abbrev pub values_of : Scope → Tree → Option Values
 values_of s e = values_from s (replicate (length s.fields) None) (conjuncts e)
 
+-- what a view shows has a width of its own, and fits it
+abbrev pub shown_with : Scope → Option Kind → Shown → Option (List ℕ × tree.Tree)
+shown_with s None x = None
+shown_with s (Some kind) x = over s s.outer x.names kind x.value
+
+abbrev pub shown_of : Scope → Shown → Option (List ℕ × tree.Tree)
+shown_of s x = shown_with s (let_kind s x.value) x
+
+abbrev pub counted_of : Scope → List Name → Tree → Option (List ℕ × tree.Tree)
+counted_of s vs e = over s s.outer vs Truth e
+
+abbrev pub fits_view : Scope → RawSort → List Shown → Bool
+fits_view s sort shown = is_some (sort_for s sort) && list_all (λ x. is_some (shown_of s x)) shown
+
 abbrev pub fits_return : Here → Tree → Bool
 fits_return h e = if is_equivalence (kind_of h.head) then is_some (values_of h.scope e) else fits h.scope [] Truth e
 
@@ -170,11 +197,17 @@ fits_line h (let_line x e) = fits_let h.scope (let_kind h.scope e) e
 fits_line h (write_line c f at e) = fits_write h.scope (field_sort h.scope f) at e
 fits_line h (return_line e) = fits_return h e
 fits_line h (end_line e c r) = fits h.scope [] Truth e && fits_result h.scope h.result r
+fits_line h (count_line f vs e) = is_some (counted_of h.scope vs e)
+fits_line h (view_line sort shown) = fits_view h.scope sort shown
 fits_line h _ = true
 
--- it is not tried on a line with a path that is no integer leaf
+-- the parameter of a count or a view is used without a sort: its return line's own reason decides
+abbrev pub is_unsorted_line : Scope → Item → Bool
+is_unsorted_line s item = on_line s (is_unsorted s) item
+
+-- it is not tried on a line with a path that is no integer leaf, nor on one that uses a parameter without a sort
 abbrev pub is_s7 : Here → Item → Bool
-is_s7 h item = not (is_s8 h item) && not (fits_line h item)
+is_s7 h item = not (is_s8 h item) && (not (is_unsorted_line h.scope item) && not (fits_line h item))
 
 -- ---- at a field: not exactly one equation; at the return line of the equivalence function: a conjunct that is no equation
 
@@ -213,7 +246,7 @@ is_large_line h (field_line x keys sort) = is_large h.entries (entries_of (field
 is_large_line h _ = false
 
 abbrev pub is_s12 : Here → Item → Bool
-is_s12 h item = is_large_line h item || on_line (is_wide h.scope) item
+is_s12 h item = is_large_line h item || on_line h.scope (is_wide h.scope) item
 
 -- ---- the `def` of a handler: there are 256 before it; its function has a pointer among its parameters or as its result; it comes to a
 -- declared function that is neither a listed intrinsic nor a hook
@@ -229,6 +262,40 @@ abbrev pub is_s15 : Text → Item → Bool
 is_s15 t (def_line x parameters) = is_handler (function_of x parameters) && t.strays x
 is_s15 t _ = false
 
+-- ---- the return line of a count: a field that has not one key, a body that reads the state otherwise than at the counted variables in
+-- their order, so many tuples as its numbers of w bits cannot tell, or more than 2^20 tuples at all its entries
+
+abbrev pub is_named : Name → Tree → Bool
+is_named x (named y) = bytes_eq x y
+is_named x _ = false
+
+-- the arguments are these names in their order
+abbrev pub are_named : List Name → Trees → Bool
+are_named [] no_trees = true
+are_named (x ∷ xs) (tree_and e es) = is_named x e && are_named xs es
+are_named xs es = false
+
+abbrev pub reads_otherwise : Scope → List Name → List Name → Tree → Bool
+reads_otherwise s vs b (read o f) = true
+reads_otherwise s vs b (read_at o f es) = not (are_named vs es)
+reads_otherwise s vs b (named x) = is_state_local (meaning s x)
+reads_otherwise s vs b _ = false
+
+abbrev pub is_over : Option FieldSort → ℕ → Bool
+is_over None tuples = false
+is_over (Some sort) tuples = nat_le (2 ^ sort.width) tuples || nat_lt (2 ^ 20) (tuples * entries_of (Some sort))
+
+abbrev pub is_s16 : Here → Item → Bool
+is_s16 h (count_line f vs e) =
+    is_none (field_key (field_sort h.scope f)) || (somewhere (reads_otherwise h.scope vs) h.scope.outer e || is_over (field_sort h.scope f) (tuples_of h.scope vs))
+is_s16 h _ = false
+
+-- ---- the return line of a view: no index sort
+
+abbrev pub is_s17 : Here → Item → Bool
+is_s17 h (view_line sort shown) = is_none (key_for h.scope sort)
+is_s17 h _ = false
+
 -- ---- the least reason of a line
 
 abbrev pub falls : Text → Here → Item → SpecReason → Bool
@@ -243,6 +310,8 @@ falls t h item S12 = is_s12 h item
 falls t h item S13 = is_s13 h item
 falls t h item S14 = is_s14 h item
 falls t h item S15 = is_s15 t item
+falls t h item S16 = is_s16 h item
+falls t h item S17 = is_s17 h item
 falls t h item _ = false
 
 -- the first of these reasons that holds
@@ -251,7 +320,7 @@ least_of holds [] = None
 least_of holds (r ∷ rs) = if holds r then Some r else least_of holds rs
 
 abbrev pub reasons : List SpecReason
-reasons = S5 ∷ S6 ∷ S7 ∷ S8 ∷ S9 ∷ S10 ∷ S11 ∷ S12 ∷ S13 ∷ S14 ∷ S15 ∷ []
+reasons = S5 ∷ S6 ∷ S7 ∷ S8 ∷ S9 ∷ S10 ∷ S11 ∷ S12 ∷ S13 ∷ S14 ∷ S15 ∷ S16 ∷ S17 ∷ []
 
 abbrev pub fault_of : Text → Here → Item → Option SpecReason
 fault_of t h item = least_of (falls t h item) reasons

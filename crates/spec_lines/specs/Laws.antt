@@ -1,7 +1,7 @@
 -- What is proved of the definitions: the first line that fails is told with its least reason.
 use Rattle.std.specs.Prelude.{◌≡◌, ℕ, ◌≤◌, ◌⊎◌, true, false, Option, Some, None, List, [], ◌∷◌}
 use Rattle.spec_ast.specs.declared.fault.SpecReason.{SpecReason}
-use Rattle.spec_ast.specs.declared.fault.SpecReason.TheVariants.{S1, S2, S3, S4, S5, S6, S7, S8, S9, S10, S11, S12, S13, S14, S15}
+use Rattle.spec_ast.specs.declared.fault.SpecReason.TheVariants.{S1, S2, S3, S4, S5, S6, S7, S8, S9, S10, S11, S12, S13, S14, S15, S16, S17}
 use Rattle.spec_ast.specs.Raw.{Item, Line}
 use Rattle.spec_lines.specs.Behind.{Here, behind}
 use Rattle.spec_lines.specs.Faults.{Text, falls}
@@ -22,6 +22,8 @@ number_of S12 = 12
 number_of S13 = 13
 number_of S14 = 14
 number_of S15 = 15
+number_of S16 = 16
+number_of S17 = 17
 
 -- the line falls under no reason
 abbrev pub Stands : Text → Here → Item → Type 0

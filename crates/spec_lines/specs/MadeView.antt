@@ -1,7 +1,7 @@
 -- What the code keeps of a specification that is being made means.
 use Rattle.std.specs.Prelude.{◌≡◌, Option, Some, None, option_map, List, map, Result, Ok, Err}
 use Rattle.spec_tree.specs.Plain as tree
-use Rattle.spec_tree.specs.View.{view_expr, view_field, view_named, view_transition, view_line}
+use Rattle.spec_tree.specs.View.{view_expr, view_field, view_named, view_transition, view_count, view_view, view_line}
 use Rattle.spec_tree.specs.declared.expr.Expr.{Expr}
 use Rattle.spec_scope.specs.declared.typed.TakeStop.{TakeStop}
 use Rattle.spec_take.specs.Answers.{Fails}
@@ -23,6 +23,9 @@ view_made m =
       invariants = map view_named m.invariants.items;
       properties = map view_named m.properties.items;
       transitions = map view_transition m.transitions.items;
+      steps = map view_named m.steps.items;
+      counts = map view_count m.counts.items;
+      views = map view_view m.views.items;
       locals = map view_expr m.locals.items;
       lines = map view_line m.lines.items;
     }

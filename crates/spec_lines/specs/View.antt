@@ -1,6 +1,6 @@
 -- What the code keeps of a line's place means.
-use Rattle.std.specs.Prelude.{◌≡◌, ℕ, if◌then◌else◌, nat_le, Option, Some, None, is_some, option_map, List, [], ◌∷◌, ◌++◌, map}
-use Rattle.spec_read.specs.Places.{Function, equivalence, invariant, property, handler}
+use Rattle.std.specs.Prelude.{◌≡◌, ℕ, drop, if◌then◌else◌, nat_le, Option, Some, None, is_some, option_map, List, [], ◌∷◌, ◌++◌, map}
+use Rattle.spec_read.specs.Places.{Function, equivalence, invariant, property, step, count, view, handler}
 use Rattle.spec_scope.specs.declared.meaning.Kind.{Kind}
 use Rattle.spec_scope.specs.declared.meaning.Kind.TheVariants.{Truth, Number}
 use Rattle.spec_scope.specs.View.{view_scope}
@@ -15,7 +15,9 @@ use Rattle.spec_lines.specs.Behind as plain
 use Rattle.spec_lines.specs.Equations as equations
 use Rattle.spec_lines.specs.declared.equation.Equation.{Equation}
 use Rattle.spec_lines.specs.declared.function.FunctionKind.{FunctionKind}
-use Rattle.spec_lines.specs.declared.function.FunctionKind.TheVariants.{Equivalence, Invariant, Property, Handler}
+use Rattle.spec_lines.specs.declared.function.FunctionKind.TheVariants.{Equivalence, Invariant, Property, Step, Count, View, Handler}
+use Rattle.spec_lines.specs.declared.here.Subject.{Subject}
+use Rattle.spec_lines.specs.declared.here.Subject.TheVariants.{Field, Sort, Nothing}
 use Rattle.spec_names.specs.Kernel.{Name}
 use Rattle.spec_scope.specs.Scope.{Declared, place_in}
 use Rattle.spec_lines.specs.declared.fore.FieldHead.{FieldHead}
@@ -27,10 +29,18 @@ abbrev pub view_kind : FunctionKind → Function
 view_kind Equivalence = equivalence
 view_kind (Invariant x) = invariant x.now
 view_kind (Property x) = property x.now
+view_kind (Step x) = step x.now
+view_kind (Count x) = count x.now
+view_kind (View x) = view x.now
 view_kind Handler = handler
 
 abbrev pub view_head : Head → plain.Head
 view_head h = record { line = h.line; name = h.name.now; kind = option_map view_kind h.kind; place = h.place }
+
+abbrev pub view_subject : Subject → plain.Subject
+view_subject (Field f) = plain.by_field f.now
+view_subject (Sort sort) = plain.by_sort sort.now
+view_subject Nothing = plain.by_none
 
 abbrev pub view_here : Here → plain.Here
 view_here h =
@@ -44,6 +54,7 @@ view_here h =
       class_names = h.class_names;
       entries = h.entries;
       handlers = h.handlers;
+      ahead = drop h.begun (map view_subject h.subjects.items);
     }
 
 -- of the kind that an expression is told to have

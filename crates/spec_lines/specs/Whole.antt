@@ -1,19 +1,21 @@
 -- The specification that raw lines stand for, and the first line that fails.
 use Rattle.std.specs.Prelude.{◌≡◌, ℕ, Bool, true, false, if◌then◌else◌, Option, Some, None, List, [], ◌∷◌, ◌++◌, map}
 use Rattle.spec_ast.specs.declared.fault.SpecReason.{SpecReason}
-use Rattle.spec_ast.specs.Raw.{Tree, Trees, Item, Line, hook_line, def_line, let_line, write_line, return_line, end_line}
+use Rattle.spec_ast.specs.Raw.{Tree, Trees, Item, Line, hook_line, def_line, let_line, write_line, return_line, end_line, count_line, view_line, Shown}
+use Rattle.spec_ast.specs.declared.raw.RawSort.{RawSort}
 use Rattle.spec_tree.specs.Plain as tree
-use Rattle.spec_tree.specs.Plain.{Field, Named, Transition, Spec}
+use Rattle.spec_tree.specs.Plain.{Key, Field, Named, Transition, CountProperty, View, Spec}
 use Rattle.spec_tree.specs.Sorted.{FieldSort}
 use Rattle.spec_names.specs.Kernel.{Name, Kernel, function_named}
 use Rattle.spec_kernel.specs.Strays.{ReachesStray}
-use Rattle.spec_read.specs.Places.{Function, equivalence, invariant, property}
+use Rattle.spec_read.specs.Places.{Function, equivalence, invariant, property, step, count, view}
 use Rattle.spec_scope.specs.declared.meaning.Kind.TheVariants.{Truth, Number}
 use Rattle.spec_scope.specs.Scope.{Declared, Scope, meaning, field_place, field_sort, own}
 use Rattle.spec_scope.specs.Taking.{chain, one, take}
 use Rattle.spec_lines.specs.Behind.{Head, Here, kind_of, is_equivalence, is_handler, width_of_type, types_of, let_kind, skips, behind, begin}
+use Rattle.spec_lines.specs.Sorts.{key_for}
 use Rattle.spec_lines.specs.Equations.{conjuncts, equated_by}
-use Rattle.spec_lines.specs.Faults.{Text, is_new, written_at, fits_own, Values, values_of, fault_of}
+use Rattle.spec_lines.specs.Faults.{Text, is_new, written_at, fits_own, Values, values_of, shown_of, counted_of, is_unsorted_line, fault_of}
 
 -- ---- the text
 
@@ -74,11 +76,26 @@ pub record Made : Type 0 where
   pub invariants : List Named
   pub properties : List Named
   pub transitions : List Transition
+  pub steps : List Named
+  pub counts : List CountProperty
+  pub views : List View
   pub locals : List tree.Tree
   pub lines : List tree.Line
 
 abbrev pub nothing_made : Made
-nothing_made = record { fields = Some []; equation_locals = []; invariants = []; properties = []; transitions = []; locals = []; lines = [] }
+nothing_made =
+    record {
+      fields = Some [];
+      equation_locals = [];
+      invariants = [];
+      properties = [];
+      transitions = [];
+      steps = [];
+      counts = [];
+      views = [];
+      locals = [];
+      lines = [];
+    }
 
 -- a local name is a line of a transition, and one of the local names of any other function
 abbrev pub with_let : Bool → Made → tree.Tree → Made
@@ -91,7 +108,7 @@ put_let skipped handler m y = if skipped then m else with_let handler m y
 
 abbrev pub let_made : Here → Made → Tree → Option Made
 let_made h m e =
-    chain (let_kind h.scope e) (λ kind. one (put_let (skips h e) (is_handler (kind_of h.head)) m) (take h.scope [] kind e))
+    chain (let_kind h.scope e) (λ kind. one (put_let (skips h e) (is_handler (kind_of h.head)) m) (take h.scope h.scope.outer kind e))
 
 abbrev pub field_with : Declared → tree.Tree → FieldSort → Field
 field_with d y sort = record { line = d.line; name = d.name; keys = sort.keys; width = sort.width; value = y }
@@ -119,10 +136,14 @@ with_invariant x m y = record m { invariants = m.invariants ++ named_with x m y 
 abbrev pub with_property : Name → Made → tree.Tree → Made
 with_property x m y = record m { properties = m.properties ++ named_with x m y ∷ []; locals = [] }
 
+abbrev pub with_step : Name → Made → tree.Tree → Made
+with_step x m y = record m { steps = m.steps ++ named_with x m y ∷ []; locals = [] }
+
 abbrev pub return_made : Option Function → Scope → Made → Tree → Option Made
 return_made (Some equivalence) s m e = one (equivalence_made s m) (values_of s e)
 return_made (Some (invariant x)) s m e = one (with_invariant x m) (take s [] Truth e)
 return_made (Some (property x)) s m e = one (with_property x m) (take s [] Truth e)
+return_made (Some (step x)) s m e = one (with_step x m) (take s [] Truth e)
 return_made _ s m e = one (λ y. m) (take s [] Truth e)
 
 abbrev pub write_at : Option ℕ → Made → tree.Trees → tree.Tree → Option Made
@@ -184,14 +205,71 @@ end_made h m c valid result (Some head) = head_made h m c valid result head head
 abbrev pub ended : Here → Made → Tree → Name → Option Tree → Option Made
 ended h m e c r = chain (take h.scope [] Truth e) (λ valid. one (λ y. end_made h m c valid y h.head) (result_made h r))
 
--- behind a line
+-- ---- counts and views
+
+abbrev pub count_with : ℕ → Name → ℕ → Made → List ℕ × tree.Tree → CountProperty
+count_with line x place m p = record { line = line; name = x; field = place; bound = p.0; locals = m.locals; value = p.1 }
+
+abbrev pub with_count : ℕ → Name → ℕ → Made → List ℕ × tree.Tree → Made
+with_count line x place m p = record m { counts = m.counts ++ count_with line x place m p ∷ []; locals = [] }
+
+-- a return line of anything but a count adds nothing
+abbrev pub head_counted : Head → Option Function → ℕ → Made → List ℕ × tree.Tree → Made
+head_counted head (Some (count x)) place m p = with_count head.line x place m p
+head_counted head f place m p = m
+
+abbrev pub count_added : Option Head → Made → ℕ → List ℕ × tree.Tree → Made
+count_added None m place p = m
+count_added (Some head) m place p = head_counted head head.kind place m p
+
+abbrev pub counted : Here → Made → Name → List Name → Tree → Option Made
+counted h m f vs e = chain (field_place h.scope f) (λ place. one (count_added h.head m place) (counted_of h.scope vs e))
+
+abbrev pub shown_with : List ℕ × tree.Tree → tree.Shown
+shown_with p = record { sizes = p.0; value = p.1 }
+
+-- these, and then what is shown
+abbrev pub shown_from : Scope → List tree.Shown → List Shown → Option (List tree.Shown)
+shown_from s ys [] = Some ys
+shown_from s ys (x ∷ xs) = chain (shown_of s x) (λ p. shown_from s (ys ++ shown_with p ∷ []) xs)
+
+abbrev pub view_with : ℕ → Name → Key → Made → List tree.Shown → View
+view_with line x key m shown = record { line = line; name = x; size = key.size; locals = m.locals; shown = shown }
+
+abbrev pub with_view : ℕ → Name → Key → Made → List tree.Shown → Made
+with_view line x key m shown = record m { views = m.views ++ view_with line x key m shown ∷ []; locals = [] }
+
+-- a return line of anything but a view adds nothing
+abbrev pub head_viewed : Head → Option Function → Key → Made → List tree.Shown → Made
+head_viewed head (Some (view x)) key m shown = with_view head.line x key m shown
+head_viewed head f key m shown = m
+
+abbrev pub view_added : Option Head → Made → Key → List tree.Shown → Made
+view_added None m key shown = m
+view_added (Some head) m key shown = head_viewed head head.kind key m shown
+
+-- observers have an index sort; where they have none, which is a fault of the line, nothing is added
+abbrev pub viewed_at : Option Head → Made → Option Key → List tree.Shown → Made
+viewed_at head m None shown = m
+viewed_at head m (Some key) shown = view_added head m key shown
+
+abbrev pub viewed : Here → Made → RawSort → List Shown → Option Made
+viewed h m sort shown = one (viewed_at h.head m (key_for h.scope sort)) (shown_from h.scope [] shown)
+
+-- behind a line whose expressions fit
+abbrev pub fitting_behind : Here → Made → Item → Option Made
+fitting_behind h m (def_line x parameters) = Some (record m { locals = []; lines = [] })
+fitting_behind h m (let_line x e) = let_made h m e
+fitting_behind h m (write_line c f at e) = written h.scope m f at e
+fitting_behind h m (return_line e) = return_made (kind_of h.head) h.scope m e
+fitting_behind h m (end_line e c r) = ended h m e c r
+fitting_behind h m (count_line f vs e) = counted h m f vs e
+fitting_behind h m (view_line sort shown) = viewed h m sort shown
+fitting_behind h m _ = Some m
+
+-- behind a line: one that uses a parameter without a sort adds nothing, as its text fails at the return line
 abbrev pub made_behind : Here → Made → Item → Option Made
-made_behind h m (def_line x parameters) = Some (record m { locals = []; lines = [] })
-made_behind h m (let_line x e) = let_made h m e
-made_behind h m (write_line c f at e) = written h.scope m f at e
-made_behind h m (return_line e) = return_made (kind_of h.head) h.scope m e
-made_behind h m (end_line e c r) = ended h m e c r
-made_behind h m _ = Some m
+made_behind h m item = if is_unsorted_line h.scope item then Some m else fitting_behind h m item
 
 abbrev pub made_from : Here → Made → List Line → Option Made
 made_from h m [] = Some m
@@ -207,6 +285,9 @@ spec_with k m =
       invariants = m.invariants;
       properties = m.properties;
       transitions = m.transitions;
+      steps = m.steps;
+      counts = m.counts;
+      views = m.views;
       objects = map (λ g. g.size) k.globals;
     })
     m.fields

@@ -11,14 +11,16 @@ ghost use Rattle.spec_scope.specs.View.{view_scope};
 ghost use Rattle.spec_take.specs.Found.{view_findings};
 ghost use Rattle.spec_lines.specs.Equations as equations;
 ghost use Rattle.spec_lines.specs.Faults as definition;
+ghost use Rattle.spec_lines.specs.Behind as plain;
 ghost use Rattle.spec_lines.specs.Lines as lines;
 ghost use Rattle.spec_lines.specs.View.{view_here, view_text};
 
+use crate::counted::is_s16;
 use crate::equated::Equated;
 use crate::equation::{equated_by, is_old};
 use crate::function::function_of;
 use crate::here::{Here, is_equivalence, is_handler};
-use crate::sorts::{entries_of, field_sort_for};
+use crate::sorts::{entries_of, field_sort_for, key_for};
 use spec_ast::{Name, RawExpr, RawItem, RawSort, SpecReason};
 use spec_kernel::KernelNames;
 use spec_scope::{BoundNames, Meaning, NameTable, Scope};
@@ -105,6 +107,8 @@ fn is_unknown_line(scope: &Scope<'_>, item: &RawItem) -> bool
                 || scope.fields.place(field.as_bytes()).is_none()
         }
         RawItem::End(_, state, _) => !is_state(scope.meaning(state.as_bytes())),
+        RawItem::Count(field, _, _) => scope.fields.place(field.as_bytes()).is_none(),
+        RawItem::View(sort, _) => names_no_sort(scope, sort),
         _ => false,
     }
 }
@@ -390,6 +394,16 @@ fn is_s15(text: &Text, kernel: &KernelNames<'_>, item: &RawItem) -> bool
     }
 }
 
+/// Whether the observers of a view have no index sort.
+fn is_s17(scope: &Scope<'_>, item: &RawItem) -> bool
+    ensures { (h : plain.Here) → h.scope ≡ view_scope scope.now → result ≡ definition.is_s17 h (view_item item.now) }
+{
+    match item {
+        RawItem::View(sort, _) => key_for(scope, sort).is_none(),
+        _ => false,
+    }
+}
+
 /// Which reasons above that of a width that does not fit hold of a line.
 #[derive(Clone, Copy)]
 struct LateReasons {
@@ -400,11 +414,13 @@ struct LateReasons {
     s13: bool,
     s14: bool,
     s15: bool,
+    s16: bool,
+    s17: bool,
 }
 
 /// The first of these reasons that holds.
 fn first_late(holds: LateReasons) -> Option<SpecReason>
-    ensures { result ≡ lines.first_late holds.s9 holds.s10 holds.s11 holds.s12 holds.s13 holds.s14 holds.s15 }
+    ensures { result ≡ lines.first_late holds.s9 holds.s10 holds.s11 holds.s12 holds.s13 holds.s14 holds.s15 holds.s16 holds.s17 }
 {
     if holds.s9 {
         Some(SpecReason::S9)
@@ -420,6 +436,10 @@ fn first_late(holds: LateReasons) -> Option<SpecReason>
         Some(SpecReason::S14)
     } else if holds.s15 {
         Some(SpecReason::S15)
+    } else if holds.s16 {
+        Some(SpecReason::S16)
+    } else if holds.s17 {
+        Some(SpecReason::S17)
     } else {
         None
     }
@@ -445,5 +465,7 @@ pub fn late(
         s13: is_s13(here, item),
         s14: is_s14(here, item),
         s15: is_s15(text, here.scope.kernel, item),
+        s16: is_s16(&here.scope, item),
+        s17: is_s17(&here.scope, item),
     }))
 }

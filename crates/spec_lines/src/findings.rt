@@ -2,16 +2,17 @@
 
 ghost use Rattle.std.specs.Prelude.{◌≡◌, ◌++◌, ◌∷◌, [], map, option_map, IfOk};
 ghost use Rattle.spec_ast.specs.Depth.{optional_trees};
-ghost use Rattle.spec_ast.specs.View.{view_expr, view_expr_list, view_item};
+ghost use Rattle.spec_ast.specs.View.{view_expr, view_expr_list, view_shown, view_item};
+ghost use Rattle.spec_lines.specs.Faults.{under};
 ghost use Rattle.spec_scope.specs.Tests.{findings};
 ghost use Rattle.spec_scope.specs.View.{view_scope};
-ghost use Rattle.spec_take.specs.Found.{view_findings};
+ghost use Rattle.spec_take.specs.Found.{view_findings, told_tuples};
 ghost use Rattle.spec_lines.specs.Lines.{either as either_of, nothing_found, found_among, found_on};
 
 use crate::equation::trees_of;
-use spec_ast::{RawExpr, RawExprs, RawItem};
-use spec_scope::{BoundNames, Scope};
-use spec_take::{Findings, faults_of};
+use spec_ast::{NameList, RawExpr, RawExprs, RawItem, RawShown};
+use spec_scope::Scope;
+use spec_take::{Findings, faults_of, in_quantifier, tuples_with};
 use std::alloc::{AllocError, Global};
 
 /// Nothing.
@@ -24,6 +25,7 @@ fn nothing() -> Findings
         no_leaf: false,
         wide: false,
         reads: false,
+        unsorted: false,
     }
 }
 
@@ -37,15 +39,71 @@ fn either(f: Findings, g: Findings) -> Findings
         no_leaf: f.no_leaf || g.no_leaf,
         wide: f.wide || g.wide,
         reads: f.reads || g.reads,
+        unsorted: f.unsorted || g.unsorted,
+    }
+}
+
+/// How many index tuples the names have that are bound before those of quantifiers.
+fn outer_tuples(scope: &Scope<'_>) -> u64
+    ensures { result ≡ told_tuples (view_scope scope.now) (view_scope scope.now).outer }
+{
+    match scope.outer {
+        Some(name) => tuples_with(scope, 1, name),
+        None => 1,
     }
 }
 
 /// What an expression is found to be.
 pub fn found_in(alloc: Global, scope: &Scope<'_>, e: &RawExpr) -> Result<Findings, AllocError>
-    ensures { IfOk result (λ f. view_findings f ≡ findings (view_scope scope.now) [] (view_expr e.now)) }
+    ensures { IfOk result (λ f. view_findings f ≡ findings (view_scope scope.now) (view_scope scope.now).outer (view_expr e.now)) }
 {
-    let mut bound = BoundNames::new(alloc);
-    faults_of(scope, &mut bound, 1, e)
+    let mut bound = scope.bound(alloc)?;
+    faults_of(scope, &mut bound, outer_tuples(scope), e)
+}
+
+/// What an expression under names is found to be, with the names.
+fn found_under(
+    alloc: Global,
+    scope: &Scope<'_>,
+    names: &NameList,
+    e: &RawExpr,
+) -> Result<Findings, AllocError>
+    ensures { IfOk result (λ f. view_findings f ≡ findings (view_scope scope.now) (view_scope scope.now).outer (under names.now (view_expr e.now))) }
+{
+    if names.as_slice().is_empty() {
+        return found_in(alloc, scope, e);
+    }
+    let mut bound = scope.bound(alloc)?;
+    in_quantifier(scope, &mut bound, outer_tuples(scope), names, e)
+}
+
+/// What the body of a count is found to be.
+fn counted(
+    alloc: Global,
+    scope: &Scope<'_>,
+    names: &NameList,
+    e: &RawExpr,
+) -> Result<Findings, AllocError>
+    ensures { IfOk result (λ f. view_findings f ≡ found_among (view_scope scope.now) (under names.now (view_expr e.now) ∷ [])) }
+{
+    let found = found_under(alloc, scope, names, e)?;
+    Ok(either(found, nothing()))
+}
+
+/// What a view's expressions are found to be.
+fn shown(
+    alloc: Global,
+    scope: &Scope<'_>,
+    list: &[RawShown],
+) -> Result<Findings, AllocError>
+    ensures { IfOk result (λ f. view_findings f ≡ found_among (view_scope scope.now) (map (λ x. under x.names x.value) (map view_shown list.now))) }
+{
+    let mut found = nothing();
+    'each: for one in list {
+        let here = found_under(alloc, scope, &one.names, &one.value)?;
+        found = either(found, here);
+    }
+    Ok(either(found, nothing()))
 }
 
 /// What expressions are found to be.
@@ -120,6 +178,8 @@ pub fn found_on_line(
         RawItem::Return(e) => last(alloc, scope, e),
         RawItem::End(e, _, None) => last(alloc, scope, e),
         RawItem::End(e, _, Some(r)) => both(alloc, scope, e, r),
+        RawItem::Count(_, names, e) => counted(alloc, scope, names, e),
+        RawItem::View(_, list) => shown(alloc, scope, list.as_slice()),
         _ => Ok(nothing()),
     }
 }

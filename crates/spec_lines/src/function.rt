@@ -15,6 +15,12 @@ pub enum FunctionKind<'s> {
     Invariant(&'s [u8]),
     /// By its name without the prefix.
     Property(&'s [u8]),
+    /// By its name without the prefix.
+    Step(&'s [u8]),
+    /// By its name without the prefix.
+    Count(&'s [u8]),
+    /// By its name without the prefix.
+    View(&'s [u8]),
     Handler,
 }
 
@@ -74,11 +80,14 @@ fn begins_with(front: &[u8], name: &[u8]) -> bool
     name.starts_with(front)
 }
 
-/// Whether the name is kept for functions of other kinds.
-fn is_reserved(name: &[u8]) -> bool
-    ensures { result ≡ places.is_reserved name.now }
+/// Whether there are two names, the first of which is `state`.
+fn are_state_and_one(names: &[Name]) -> bool
+    ensures { result ≡ places.are_state_and_one names.now }
 {
-    begins_with(b"step_", name) || begins_with(b"count_", name) || begins_with(b"view_", name)
+    match names {
+        [first, _] => first.as_bytes() == b"state".as_slice(),
+        _ => false,
+    }
 }
 
 /// What follows so many bytes.
@@ -89,6 +98,30 @@ fn behind(name: &[u8], count: usize) -> &[u8]
         return &[];
     }
     &name[count..]
+}
+
+/// The kind of a step property, a count, a view or a handler of a name, if it may have these parameters.
+fn further_function_of<'s>(name: &'s [u8], parameters: &[Name]) -> Option<FunctionKind<'s>>
+    ensures { option_map view_kind result ≡ places.further_function_of name.now parameters.now }
+{
+    if begins_with(b"step_", name) {
+        where_true(
+            name.len() != 5 && are_both(parameters, b"old", b"new"),
+            FunctionKind::Step(behind(name, 5)),
+        )
+    } else if begins_with(b"count_", name) {
+        where_true(
+            name.len() != 6 && are_state_and_one(parameters),
+            FunctionKind::Count(behind(name, 6)),
+        )
+    } else if begins_with(b"view_", name) {
+        where_true(
+            name.len() != 5 && are_state_and_one(parameters),
+            FunctionKind::View(behind(name, 5)),
+        )
+    } else {
+        where_true(begins_state(parameters), FunctionKind::Handler)
+    }
 }
 
 /// The kind of the function of a name, if it may have these parameters.
@@ -111,9 +144,6 @@ pub fn function_of<'s>(name: &'s [u8], parameters: &[Name]) -> Option<FunctionKi
             FunctionKind::Property(behind(name, 5)),
         )
     } else {
-        where_true(
-            !is_reserved(name) && begins_state(parameters),
-            FunctionKind::Handler,
-        )
+        further_function_of(name, parameters)
     }
 }

@@ -1,11 +1,12 @@
 //! Where a line stands.
 
-ghost use Rattle.std.specs.Prelude.{◌≡◌, option_map};
+ghost use Rattle.std.specs.Prelude.{◌≡◌, option_map, map};
 ghost use Rattle.spec_lines.specs.Behind as definition;
-ghost use Rattle.spec_lines.specs.View.{view_head, view_here, view_kind};
+ghost use Rattle.spec_lines.specs.View.{view_head, view_here, view_kind, view_subject};
 ghost use Rattle.spec_scope.specs.View.{view_scope};
 
 use crate::function::FunctionKind;
+use spec_ast::RawSort;
 use spec_scope::{BoundNames, Scope};
 use std::alloc::Global;
 
@@ -18,6 +19,17 @@ pub struct Head<'s> {
     pub kind: Option<FunctionKind<'s>>,
     /// The place of the kernel's function of that name.
     pub place: Option<u32>,
+}
+
+/// What the return line of a count or a view says of the sort of its parameter.
+#[derive(Clone, Copy, Debug)]
+pub enum Subject<'s> {
+    /// The key of the field of this name.
+    Field(&'s [u8]),
+    /// This sort.
+    Sort(&'s RawSort),
+    /// Nothing: there is no such line.
+    Nothing,
 }
 
 /// Where a line stands: what may be named there, and what the lines before it leave.
@@ -36,6 +48,10 @@ pub struct Here<'s> {
     /// The entries of all fields, to one more than the limit.
     pub entries: u64,
     pub handlers: u32,
+    /// Of all counts and views of the text.
+    pub subjects: Vec<Subject<'s>>,
+    /// How many counts and views have begun.
+    pub begun: u32,
 }
 
 /// Whether it is the equivalence function.
@@ -61,9 +77,30 @@ pub fn is_handler(kind: Option<FunctionKind<'_>>) -> bool
     }
 }
 
+/// Whether it is a count.
+pub fn is_count(kind: Option<FunctionKind<'_>>) -> bool
+    ensures { result ≡ definition.is_count (option_map view_kind kind.entry) }
+{
+    match kind {
+        Some(FunctionKind::Count(_)) => true,
+        _ => false,
+    }
+}
+
+/// Whether it has a parameter that is bound in the whole function.
+pub fn has_outer(kind: Option<FunctionKind<'_>>) -> bool
+    ensures { result ≡ definition.has_outer (option_map view_kind kind.entry) }
+{
+    match kind {
+        Some(FunctionKind::Count(_)) => true,
+        Some(FunctionKind::View(_)) => true,
+        _ => false,
+    }
+}
+
 /// Before the first line.
-pub fn start<'s>(alloc: Global, scope: Scope<'s>) -> Here<'s>
-    ensures { view_here result ≡ definition.start (view_scope scope.entry) }
+pub fn start<'s>(alloc: Global, scope: Scope<'s>, subjects: Vec<Subject<'s>>) -> Here<'s>
+    ensures { view_here result ≡ definition.start (view_scope scope.entry) (map view_subject subjects.items) }
 {
     Here {
         scope,
@@ -75,5 +112,7 @@ pub fn start<'s>(alloc: Global, scope: Scope<'s>) -> Here<'s>
         class_names: BoundNames::new(alloc),
         entries: 0,
         handlers: 0,
+        subjects,
+        begun: 0,
     }
 }

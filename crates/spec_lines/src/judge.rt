@@ -1,6 +1,7 @@
 //! The least reason of a line, and what the line adds where there is none.
 
-ghost use Rattle.std.specs.Prelude.{◌≡◌, None, Some, is_some, IfOk, IfNone};
+ghost use Rattle.std.specs.Prelude.{◌≡◌, ◌||◌, None, Some, is_some, IfOk, IfNone};
+ghost use Rattle.spec_scope.specs.View.{view_scope};
 ghost use Rattle.std.specs.Bool.{OnTrue};
 ghost use Rattle.spec_ast.specs.View.{view_item};
 ghost use Rattle.spec_take.specs.Found.{view_findings};
@@ -32,6 +33,7 @@ fn sorts_fit(alloc: Global, here: &Here<'_>, item: &RawItem) -> Result<bool, All
             Ok(sort.is_some())
         }
         RawItem::Var(_, sort) => Ok(key_for(&here.scope, sort).is_some()),
+        RawItem::View(sort, _) => Ok(sort_for(&here.scope, sort).is_some()),
         _ => Ok(true),
     }
 }
@@ -46,8 +48,8 @@ impl Made {
         item: &RawItem,
     ) -> Result<bool, AllocError>
         requires { AreHeadsOf here.now.scope.fields heads.now }
-        ensures fits { IfOk result (λ b. b ≡ is_some (definition.made_behind (view_here here.now) (view_made self.old) (view_item item.now))) }
-        ensures made { IfOk result (λ b. OnTrue b (definition.made_behind (view_here here.now) (view_made self.old) (view_item item.now) ≡ Some (view_made self.new))) }
+        ensures fits { IfOk result (λ b. b ≡ is_some (definition.fitting_behind (view_here here.now) (view_made self.old) (view_item item.now))) }
+        ensures made { IfOk result (λ b. OnTrue b (definition.fitting_behind (view_here here.now) (view_made self.old) (view_item item.now) ≡ Some (view_made self.new))) }
     {
         match self.add(alloc, here, heads, item) {
             Ok(()) => Ok(true),
@@ -66,7 +68,7 @@ impl Made {
     ) -> Result<bool, AllocError>
         requires { AreHeadsOf here.now.scope.fields heads.now }
         ensures fits { IfOk result (λ b. b ≡ faults.fits_line (view_here here.now) (view_item item.now)) }
-        ensures made { IfOk result (λ b. OnTrue b (definition.made_behind (view_here here.now) (view_made self.old) (view_item item.now) ≡ Some (view_made self.new))) }
+        ensures made { IfOk result (λ b. OnTrue b (definition.fitting_behind (view_here here.now) (view_made self.old) (view_item item.now) ≡ Some (view_made self.new))) }
     {
         let sorts = sorts_fit(alloc, here, item)?;
         if !sorts {
@@ -85,13 +87,16 @@ impl Made {
         item: &RawItem,
         found: &Findings,
     ) -> Result<Option<SpecReason>, AllocError>
-        requires { AreHeadsOf here.now.scope.fields heads.now }
-        ensures reason { IfOk result (λ r. r ≡ lines.arranged None (faults.fits_line (view_here here.now) (view_item item.now)) (lines.late (view_text here.now.scope.kernel.now text.now) (view_here here.now) (view_item item.now) (view_findings found.now))) }
+        requires heads { AreHeadsOf here.now.scope.fields heads.now }
+        requires unsorted { found.now.unsorted ≡ faults.is_unsorted_line (view_scope here.now.scope) (view_item item.now) }
+        ensures reason { IfOk result (λ r. r ≡ lines.arranged None (found.now.unsorted || faults.fits_line (view_here here.now) (view_item item.now)) (lines.late (view_text here.now.scope.kernel.now text.now) (view_here here.now) (view_item item.now) (view_findings found.now))) }
         ensures made { IfOk result (λ r. IfNone r (definition.made_behind (view_here here.now) (view_made self.old) (view_item item.now) ≡ Some (view_made self.new))) }
     {
-        let fits = self.fit(alloc, here, heads, item)?;
-        if !fits {
-            return Ok(Some(SpecReason::S7));
+        if !found.unsorted {
+            let fits = self.fit(alloc, here, heads, item)?;
+            if !fits {
+                return Ok(Some(SpecReason::S7));
+            }
         }
         late(alloc, text, here, item, found)
     }

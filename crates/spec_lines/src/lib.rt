@@ -2,6 +2,7 @@
 //! specification stands for.
 #![tactic(auto)]
 
+pub mod counted;
 pub mod ends;
 pub mod equated;
 pub mod equation;

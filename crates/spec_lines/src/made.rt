@@ -30,7 +30,8 @@ use spec_kernel::ValueType;
 use spec_scope::{BoundNames, FieldSort, FieldTable, Kind, Scope, TakeStop};
 use spec_take::{indices, take};
 use spec_tree::{
-    Body, Expr, ExprList, Field, Line, LineList, Named, SizeList, Sort, Transition, Write,
+    Body, CountProperty, Expr, ExprList, Field, Line, LineList, Named, SizeList, Sort, Transition,
+    View, Write,
 };
 use std::alloc::{AllocError, Global};
 use std::mem;
@@ -43,6 +44,9 @@ pub struct Made {
     pub invariants: Vec<Named>,
     pub properties: Vec<Named>,
     pub transitions: Vec<Transition>,
+    pub steps: Vec<Named>,
+    pub counts: Vec<CountProperty>,
+    pub views: Vec<View>,
     pub locals: Vec<Expr>,
     pub lines: Vec<Line>,
 }
@@ -57,6 +61,9 @@ pub fn nothing_made(alloc: Global) -> Made
         invariants: Vec::new(alloc),
         properties: Vec::new(alloc),
         transitions: Vec::new(alloc),
+        steps: Vec::new(alloc),
+        counts: Vec::new(alloc),
+        views: Vec::new(alloc),
         locals: Vec::new(alloc),
         lines: Vec::new(alloc),
     }
@@ -72,6 +79,19 @@ pub fn take_alone(
     ensures { Gives view_expr result (taking.take (view_scope scope.now) [] kind (view_raw e.now)) }
 {
     let mut bound = BoundNames::new(alloc);
+    take(alloc, scope, &mut bound, kind, e)
+}
+
+/// What an expression stands for under the parameter of a count or a view.
+fn take_in_body(
+    alloc: Global,
+    scope: &Scope<'_>,
+    kind: Kind,
+    e: &RawExpr,
+) -> Result<Expr, TakeStop>
+    ensures { Gives view_expr result (taking.take (view_scope scope.now) (view_scope scope.now).outer kind (view_raw e.now)) }
+{
+    let mut bound = scope.bound(alloc)?;
     take(alloc, scope, &mut bound, kind, e)
 }
 
@@ -105,7 +125,7 @@ impl Made {
     {
         match let_kind(&here.scope, e) {
             Some(kind) => {
-                let y = take_alone(alloc, &here.scope, kind, e)?;
+                let y = take_in_body(alloc, &here.scope, kind, e)?;
                 let skipped = skips(alloc, here, e)?;
                 self.put_let(skipped, is_handler(kind_of(&here.head)), y)?;
                 Ok(())
@@ -250,6 +270,16 @@ impl Made {
         let locals = mem::replace(&mut self.locals, Vec::new(alloc));
         let named = named_with(alloc, name, locals, value)?;
         self.properties.push(named)?;
+        Ok(())
+    }
+
+    /// Adds a step property.
+    fn add_step(&mut self, alloc: Global, name: &[u8], value: Expr) -> Result<(), AllocError>
+        ensures { OnOk result (view_made self.new ≡ definition.with_step name.now (view_made self.old) (view_expr value)) }
+    {
+        let locals = mem::replace(&mut self.locals, Vec::new(alloc));
+        let named = named_with(alloc, name, locals, value)?;
+        self.steps.push(named)?;
         Ok(())
     }
 }
@@ -464,6 +494,21 @@ impl Made {
         Ok(())
     }
 
+    /// Behind the return line of a step property.
+    fn at_step(
+        &mut self,
+        alloc: Global,
+        scope: &Scope<'_>,
+        name: &[u8],
+        e: &RawExpr,
+    ) -> Result<(), TakeStop>
+        ensures { Makes result (view_made self.new) (taking.one (definition.with_step name.now (view_made self.old)) (taking.take (view_scope scope.now) [] Truth (view_raw e.now))) }
+    {
+        let y = take_alone(alloc, scope, Kind::Truth, e)?;
+        self.add_step(alloc, name, y)?;
+        Ok(())
+    }
+
     /// Behind a return line of no such function, which adds nothing.
     fn at_truth(&mut self, alloc: Global, scope: &Scope<'_>, e: &RawExpr) -> Result<(), TakeStop>
         ensures { Makes result (view_made self.new) (taking.one (λ y. view_made self.old) (taking.take (view_scope scope.now) [] Truth (view_raw e.now))) }
@@ -488,6 +533,10 @@ impl Made {
             Some(FunctionKind::Equivalence) => self.at_equivalence(alloc, &here.scope, heads, e),
             Some(FunctionKind::Invariant(name)) => self.at_invariant(alloc, &here.scope, name, e),
             Some(FunctionKind::Property(name)) => self.at_property(alloc, &here.scope, name, e),
+            Some(FunctionKind::Step(name)) => self.at_step(alloc, &here.scope, name, e),
+            Some(FunctionKind::Count(_)) | Some(FunctionKind::View(_)) => {
+                self.at_truth(alloc, &here.scope, e)
+            }
             Some(FunctionKind::Handler) | None => self.at_truth(alloc, &here.scope, e),
         }
     }
@@ -500,7 +549,7 @@ impl Made {
         self.lines = Vec::new(alloc);
     }
 
-    /// Adds what a line adds. `heads` are the lines and names of the fields of the text.
+    /// Adds what a line adds whose expressions fit. `heads` are the lines and names of the fields of the text.
     pub fn add(
         &mut self,
         alloc: Global,
@@ -509,7 +558,7 @@ impl Made {
         item: &RawItem,
     ) -> Result<(), TakeStop>
         requires { AreHeadsOf here.now.scope.fields heads.now }
-        ensures { Makes result (view_made self.new) (definition.made_behind (view_here here.now) (view_made self.old) (view_item item.now)) }
+        ensures { Makes result (view_made self.new) (definition.fitting_behind (view_here here.now) (view_made self.old) (view_item item.now)) }
     {
         match item {
             RawItem::Def(..) => {
@@ -520,6 +569,10 @@ impl Made {
             RawItem::Write(_, field, at, e) => self.at_write(alloc, here, field.as_bytes(), at, e),
             RawItem::Return(e) => self.at_return(alloc, here, heads, e),
             RawItem::End(e, state, r) => self.at_end(alloc, here, e, state.as_bytes(), r),
+            RawItem::Count(field, names, e) => {
+                self.at_count(alloc, here, field.as_bytes(), names, e)
+            }
+            RawItem::View(sort, list) => self.at_view(alloc, here, sort, list.as_slice()),
             _ => Ok(()),
         }
     }

@@ -5,14 +5,16 @@ ghost use Rattle.spec_ast.specs.Raw.{let_line};
 ghost use Rattle.spec_ast.specs.View.{view_expr, view_item};
 ghost use Rattle.spec_kernel.specs.Seen.{view_value, kernel_in};
 ghost use Rattle.spec_names.specs.Kernel.{function_named, function_place};
-ghost use Rattle.spec_scope.specs.Scope.{with_name};
+ghost use Rattle.spec_scope.specs.Scope.{with_name, outer_names};
 ghost use Rattle.spec_scope.specs.View.{view_scope};
 ghost use Rattle.spec_lines.specs.Behind as definition;
 ghost use Rattle.spec_lines.specs.View.{view_kind, view_here, within_told};
 
 use crate::findings::found_in;
 use crate::function::{FunctionKind, function_of};
-use crate::here::{Head, Here, is_equivalence, is_handler};
+use crate::here::{Head, Here, has_outer, is_count, is_equivalence, is_handler};
+use crate::made::kind_of;
+use crate::subject::outer_width;
 use crate::sorts::{
     entries_behind, entries_of, field_sort_for, key_for, sort_for, sort_meaning, variable_meaning,
 };
@@ -127,15 +129,32 @@ fn add_handler_names<'s>(
     }
 }
 
-/// Adds what the parameters of a function mean.
+/// Adds the parameters of a count or a view, the second of which has this width.
+fn add_outer<'s>(
+    names: &mut NameTable<'s>,
+    width: Option<u32>,
+    parameters: &'s [Name],
+) -> Result<(), AllocError>
+    requires { names.old ≡ [] }
+    ensures { OnOk result (names.new ≡ definition.with_outer parameters.now width (definition.state_names)) }
+{
+    names.add(b"state", Meaning::State(StateName::Old))?;
+    match parameters {
+        [_, name, ..] => names.add(name.as_bytes(), Meaning::Outer(width)),
+        _ => Ok(()),
+    }
+}
+
+/// Adds what the parameters of a function mean, where that of a count or a view has this width.
 fn add_parameters<'s>(
     names: &mut NameTable<'s>,
     kind: Option<FunctionKind<'s>>,
     types: &[ValueType],
+    width: Option<u32>,
     parameters: &'s [Name],
 ) -> Result<(), AllocError>
     requires { names.old ≡ [] }
-    ensures { OnOk result (names.new ≡ definition.parameter_names (option_map view_kind kind.entry) parameters.now (map view_value types.now)) }
+    ensures { OnOk result (names.new ≡ definition.parameter_names (option_map view_kind kind.entry) parameters.now (map view_value types.now) width) }
 {
     match kind {
         Some(FunctionKind::Equivalence) => {
@@ -144,6 +163,12 @@ fn add_parameters<'s>(
         }
         Some(FunctionKind::Invariant(_)) => names.add(b"kernel", Meaning::Kernel),
         Some(FunctionKind::Property(_)) => names.add(b"state", Meaning::State(StateName::Old)),
+        Some(FunctionKind::Step(_)) => {
+            names.add(b"old", Meaning::State(StateName::Old))?;
+            names.add(b"new", Meaning::State(StateName::New))
+        }
+        Some(FunctionKind::Count(_)) => add_outer(names, width, parameters),
+        Some(FunctionKind::View(_)) => add_outer(names, width, parameters),
         Some(FunctionKind::Handler) => add_handler_names(names, types, parameters),
         None => Ok(()),
     }
@@ -202,11 +227,50 @@ pub fn skips(alloc: Global, here: &Here<'_>, e: &RawExpr) -> Result<bool, AllocE
     Ok(found.reads)
 }
 
+/// Whether the right side of a local name's line is one of the equivalence function or of a count that reads the state.
+fn marks(alloc: Global, here: &Here<'_>, e: &RawExpr) -> Result<bool, AllocError>
+    ensures { IfOk result (λ b. b ≡ definition.marks (view_here here.now) (view_expr e.now)) }
+{
+    if !is_equivalence(&here.head) && !is_count(kind_of(&here.head)) {
+        return Ok(false);
+    }
+    let found = found_in(alloc, &here.scope, e)?;
+    Ok(found.reads)
+}
+
+/// The second of the names.
+fn second_of(names: &[Name]) -> Option<&[u8]>
+    ensures { option_map (λ x. x.now) result ≡ definition.second_of names.now }
+{
+    match names {
+        [_, name, ..] => Some(name.as_bytes()),
+        _ => None,
+    }
+}
+
+/// The parameter that is bound in the whole function.
+fn outer_of<'s>(kind: Option<FunctionKind<'_>>, parameters: &'s [Name]) -> Option<&'s [u8]>
+    ensures { outer_names (option_map (λ x. x.now) result) ≡ definition.outer_of (option_map view_kind kind.entry) parameters.now }
+{
+    if has_outer(kind) {
+        second_of(parameters)
+    } else {
+        None
+    }
+}
+
 /// Whether the function of a kind is counted as a handler.
 fn one_handler(kind: Option<FunctionKind<'_>>) -> u32
     ensures { result ≡ definition.one_handler (option_map view_kind kind.entry) }
 {
     if is_handler(kind) { 1 } else { 0 }
+}
+
+/// Whether the function of a kind is counted as a count or a view.
+fn one_outer(kind: Option<FunctionKind<'_>>) -> u32
+    ensures { result ≡ definition.one_outer (option_map view_kind kind.entry) }
+{
+    if has_outer(kind) { 1 } else { 0 }
 }
 
 /// So many more.
@@ -236,6 +300,7 @@ impl<'s> Here<'s> {
     {
         add_top(&mut self.scope, item)?;
         self.scope.inner.clear();
+        self.scope.outer = None;
         self.head = None;
         Ok(())
     }
@@ -277,14 +342,18 @@ impl<'s> Here<'s> {
     {
         let kind = function_of(name, parameters);
         let kernel = self.scope.kernel;
-        self.scope.top.add(name, Meaning::Nothing)?;
         self.scope.inner.clear();
+        let width = outer_width(self, kind);
+        self.scope.top.add(name, Meaning::Nothing)?;
         add_parameters(
             &mut self.scope.inner,
             kind,
             types_of(kernel, name),
+            width,
             parameters,
         )?;
+        self.scope.outer = outer_of(kind, parameters);
+        self.begun = added(self.begun, one_outer(kind))?;
         self.head = Some(Head {
             line,
             name,
@@ -311,7 +380,8 @@ impl<'s> Here<'s> {
     {
         let kind = let_kind(&self.scope, e);
         let skipped = skips(alloc, self, e)?;
-        self.add_inner(name, Meaning::Local(self.lets, kind, skipped))?;
+        let marked = marks(alloc, self, e)?;
+        self.add_inner(name, Meaning::Local(self.lets, kind, marked))?;
         self.lets = lets_behind(self.lets, skipped)?;
         Ok(())
     }
@@ -340,7 +410,7 @@ impl<'s> Here<'s> {
                 Ok(())
             }
             RawItem::Write(..) => Ok(()),
-            RawItem::Return(_) | RawItem::End(..) => {
+            RawItem::Return(_) | RawItem::End(..) | RawItem::Count(..) | RawItem::View(..) => {
                 self.head = None;
                 Ok(())
             }

@@ -41,16 +41,20 @@ is_reserved x = begins_with (codes "step_") x || (begins_with (codes "count_") x
 abbrev pub function_with : Bool → Function → Option Function
 function_with fits f = if fits then Some f else None
 
+abbrev pub further_function_of : Text → List Text → Option Function
+further_function_of x parameters =
+    if begins_with (codes "step_") x then function_with (not (length x == 5) && are_same parameters (codes "old" ∷ codes "new" ∷ [])) (step (drop 5 x))
+    else (if begins_with (codes "count_") x then function_with (not (length x == 6) && are_state_and_one parameters) (count (drop 6 x))
+    else (if begins_with (codes "view_") x then function_with (not (length x == 5) && are_state_and_one parameters) (view (drop 5 x))
+    else function_with (begins_state parameters) handler))
+
 -- the kind of a function with these parameters, if it may have them
 abbrev pub function_of : Text → List Text → Option Function
 function_of x parameters =
     if bytes_eq x (codes "equiv") then function_with (are_same parameters (codes "kernel" ∷ codes "state" ∷ [])) equivalence
     else (if begins_with (codes "inv_") x then function_with (not (length x == 4) && are_same parameters (codes "kernel" ∷ [])) (invariant (drop 4 x))
     else (if begins_with (codes "prop_") x then function_with (not (length x == 5) && are_same parameters (codes "state" ∷ [])) (property (drop 5 x))
-    else (if begins_with (codes "step_") x then function_with (not (length x == 5) && are_same parameters (codes "old" ∷ codes "new" ∷ [])) (step (drop 5 x))
-    else (if begins_with (codes "count_") x then function_with (not (length x == 6) && are_state_and_one parameters) (count (drop 6 x))
-    else (if begins_with (codes "view_") x then function_with (not (length x == 5) && are_state_and_one parameters) (view (drop 5 x))
-    else function_with (begins_state parameters) handler)))))
+    else further_function_of x parameters))
 
 abbrev pub is_handler : Function → Bool
 is_handler handler = true

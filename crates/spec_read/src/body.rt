@@ -327,7 +327,7 @@ fn statement_at<'t>(
 
 /// What stands behind the first name of a line, in another function.
 #[tactic(auto, using(crate::proofs::ItemSteps::line_steps))]
-fn definition_at<'t>(
+pub fn definition_at<'t>(
     alloc: Global,
     nest: usize,
     name: &[u8],

@@ -7,6 +7,8 @@ ghost use Rattle.spec_read.specs.ItemReading as definition;
 ghost use Rattle.spec_read.specs.Sections.{place_for};
 
 use crate::body::{relation_at, transition_at};
+use crate::count::count_at;
+use crate::view::view_at;
 use crate::field::field_at;
 use crate::section::Section;
 use crate::top::top_at;
@@ -29,6 +31,8 @@ pub fn item_at<'t>(
         Section::Class => field_at(alloc, tokens),
         Section::Transition => transition_at(alloc, tokens.len() + 1, tokens),
         Section::Relation => relation_at(alloc, tokens.len() + 1, tokens),
+        Section::Count => count_at(alloc, tokens.len() + 1, tokens),
+        Section::View => view_at(alloc, tokens.len() + 1, tokens),
         Section::Nowhere => Err(PartStop::NotSpelled),
     }
 }

@@ -6,6 +6,7 @@
 #![tactic(auto)]
 
 pub mod body;
+pub mod count;
 pub mod field;
 pub mod item;
 pub mod laws;
@@ -15,5 +16,6 @@ mod reader;
 pub mod section;
 pub mod sort;
 pub mod top;
+pub mod view;
 
 pub use reader::read_spec;

@@ -3,15 +3,18 @@
 //! The layer between expressions and lines: expressions with their depths come in, and a line goes out, or word that one of them is too
 //! deep.
 
-ghost use Rattle.std.specs.Prelude.{◌≡◌, max, Some, None};
+ghost use Rattle.std.specs.Prelude.{◌≡◌, ◌++◌, ◌∷◌, [], max, map, Some, None, IfOk};
 ghost use Rattle.spec_ast.specs.Raw as plain;
-ghost use Rattle.spec_ast.specs.View.{view_expr, view_exprs, view_item};
+ghost use Rattle.spec_ast.specs.View.{view_expr, view_exprs, view_item, view_shown};
 ghost use Rattle.spec_expr.specs.Grown.{bounded, lift, join};
 ghost use Rattle.spec_expr.specs.Fronts.{grown};
-ghost use Rattle.spec_read.specs.ItemReading.{same_depth};
+ghost use Rattle.spec_read.specs.ItemReading.{same_depth, shown_with};
 
-use spec_ast::{Name, RawExpr, RawExprs, RawItem};
+use spec_ast::{
+    Name, NameList, RawExpr, RawExprs, RawItem, RawShown, RawShownList, RawSort,
+};
 use spec_expr::{Bounded, MOST_DEPTH};
+use std::alloc::AllocError;
 
 /// The line whose expressions have this depth.
 fn within(item: RawItem, depth: u32) -> Bounded<RawItem>
@@ -120,6 +123,86 @@ pub fn result_line(tree: Bounded<RawExpr>, state: Name, value: Bounded<RawExpr>)
         (Bounded::TooDeep, value) => {
             drop(value);
             drop(state);
+            Bounded::TooDeep
+        }
+    }
+}
+
+/// `return FIELD , Count ( [ v , .. ] , EXPR )`
+pub fn count_line(field: Name, names: NameList, tree: Bounded<RawExpr>) -> Bounded<RawItem>
+    ensures { grown view_item result ≡ lift 100 (plain.count_line field names) same_depth (grown view_expr tree) }
+{
+    match tree {
+        Bounded::Within(tree, depth) => within(RawItem::Count(field, names, tree), depth),
+        Bounded::TooDeep => {
+            drop(field);
+            drop(names);
+            Bounded::TooDeep
+        }
+    }
+}
+
+/// What a view shows, an expression or, under names, its values.
+pub fn shown(names: NameList, tree: Bounded<RawExpr>) -> Bounded<RawShown>
+    ensures { grown view_shown result ≡ lift 100 (shown_with names) same_depth (grown view_expr tree) }
+{
+    match tree {
+        Bounded::Within(value, depth) => {
+            if depth <= MOST_DEPTH {
+                Bounded::Within(RawShown { names, value }, depth)
+            } else {
+                drop(names);
+                drop(value);
+                Bounded::TooDeep
+            }
+        }
+        Bounded::TooDeep => {
+            drop(names);
+            Bounded::TooDeep
+        }
+    }
+}
+
+/// One more that is shown, behind the others.
+pub fn with_shown(
+    list: Bounded<Vec<RawShown>>,
+    more: Bounded<RawShown>,
+) -> Result<Bounded<Vec<RawShown>>, AllocError>
+    ensures { IfOk result (λ g. grown (λ v. map view_shown v.items) g ≡ join 100 (λ xs x. xs ++ x ∷ []) max (grown (λ v. map view_shown v.items) list) (grown view_shown more)) }
+{
+    match (list, more) {
+        (Bounded::Within(mut items, m), Bounded::Within(item, n)) => {
+            let depth = m.max(n);
+            if depth <= MOST_DEPTH {
+                items.push(item)?;
+                Ok(Bounded::Within(items, depth))
+            } else {
+                drop(items);
+                drop(item);
+                Ok(Bounded::TooDeep)
+            }
+        }
+        (Bounded::Within(items, _), Bounded::TooDeep) => {
+            drop(items);
+            Ok(Bounded::TooDeep)
+        }
+        (Bounded::TooDeep, more) => {
+            drop(more);
+            Ok(Bounded::TooDeep)
+        }
+    }
+}
+
+/// `return SORT , e , ..`
+pub fn view_line(sort: RawSort, list: Bounded<Vec<RawShown>>) -> Bounded<RawItem>
+    ensures { grown view_item result ≡ lift 100 (plain.view_line sort) same_depth (grown (λ v. map view_shown v.items) list) }
+{
+    match list {
+        Bounded::Within(items, depth) => {
+            within(RawItem::View(sort, RawShownList::of(items)), depth)
+        }
+        Bounded::TooDeep => {
+            drop(sort);
             Bounded::TooDeep
         }
     }

@@ -136,6 +136,8 @@ pub fn next_section(section: Section, item: &RawItem) -> Section
         },
         RawItem::Return(_) => Section::Nowhere,
         RawItem::End(_, _, _) => Section::Nowhere,
+        RawItem::Count(_, _, _) => Section::Nowhere,
+        RawItem::View(_, _) => Section::Nowhere,
         _ => within(section),
     }
 }

@@ -16,8 +16,12 @@ pub enum Section {
     Class,
     /// In the body of a transition.
     Transition,
-    /// In the body of another function: the equivalence, an invariant or a property.
+    /// In the body of a function that returns a truth: the equivalence, an invariant, a property or a step property.
     Relation,
+    /// In the body of a count.
+    Count,
+    /// In the body of a view.
+    View,
     /// Indented behind none of these, or behind the `return` of a body.
     Nowhere,
 }
@@ -77,15 +81,48 @@ fn begins_with(front: &[u8], name: &[u8]) -> bool
     name.starts_with(front)
 }
 
-/// Whether the name is kept for functions of other kinds.
-fn is_reserved(name: &[u8]) -> bool
+/// Whether there are two names, the first of which is `state`.
+fn are_state_and_one(names: &[Name]) -> bool
+    ensures { result ≡ places.are_state_and_one names.now }
+{
+    match names {
+        [first, _] => first.as_bytes() == b"state".as_slice(),
+        _ => false,
+    }
+}
+
+/// Whether the name begins a function whose command does not stand yet.
+pub fn is_reserved(name: &[u8]) -> bool
     ensures { result ≡ places.is_reserved name.now }
 {
     begins_with(b"step_", name) || begins_with(b"count_", name) || begins_with(b"view_", name)
 }
 
-/// The section behind the `def` of this function, if it may have these parameters. A name that begins with `step_`, `count_` or
-/// `view_` names no function.
+/// The section behind the `def` of a step property, a count, a view or a transition, if it may have these parameters.
+fn further_body_of(name: &[u8], parameters: &[Name]) -> Option<Section>
+    ensures { option_map sections.body_section (places.further_function_of name.now parameters.now) ≡ result }
+{
+    if begins_with(b"step_", name) {
+        where_true(
+            name.len() != 5 && are_both(parameters, b"old", b"new"),
+            Section::Relation,
+        )
+    } else if begins_with(b"count_", name) {
+        where_true(
+            name.len() != 6 && are_state_and_one(parameters),
+            Section::Count,
+        )
+    } else if begins_with(b"view_", name) {
+        where_true(
+            name.len() != 5 && are_state_and_one(parameters),
+            Section::View,
+        )
+    } else {
+        where_true(begins_state(parameters), Section::Transition)
+    }
+}
+
+/// The section behind the `def` of this function, if it may have these parameters.
 pub fn body_of(name: &[u8], parameters: &[Name]) -> Option<Section>
     ensures { result ≡ option_map sections.body_section (places.function_of name.now parameters.now) }
 {
@@ -102,9 +139,6 @@ pub fn body_of(name: &[u8], parameters: &[Name]) -> Option<Section>
             Section::Relation,
         )
     } else {
-        where_true(
-            !is_reserved(name) && begins_state(parameters),
-            Section::Transition,
-        )
+        further_body_of(name, parameters)
     }
 }

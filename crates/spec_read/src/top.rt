@@ -9,7 +9,7 @@ ghost use Rattle.spec_expr.specs.Fronts.{Gives, grown, seen};
 ghost use Rattle.spec_read.specs.Places as places;
 ghost use Rattle.spec_read.specs.ItemReading as definition;
 
-use crate::section::body_of;
+use crate::section::{body_of, is_reserved};
 use crate::sort::{new_sort_at, parameters_at};
 use spec_ast::{Name, NameList, RawItem};
 use spec_expr::{Bounded, PartStop, is_name, name_at, number_of, past};
@@ -197,7 +197,8 @@ fn class_line_at<'t>(alloc: Global, tokens: &'t [Token<'t>]) -> Result<Bounded<R
     class_from(alloc, name, rest)
 }
 
-/// The line of this function, if it may have these parameters and no token is left.
+/// The line of this function, if it may have these parameters and no token is left. This is the one place that refuses step properties,
+/// counts and views until their commands stand.
 fn def_with<'t>(
     name: Name,
     parameters: NameList,
@@ -206,7 +207,15 @@ fn def_with<'t>(
     ensures { Gives (grown view_item) result (definition.def_with name parameters (places.function_of name parameters) (seen tokens.now)) }
 {
     match body_of(name.as_bytes(), parameters.as_slice()) {
-        Some(_) => ended(RawItem::Def(name, parameters), tokens),
+        Some(_) => {
+            if is_reserved(name.as_bytes()) {
+                drop(name);
+                drop(parameters);
+                Err(PartStop::NotSpelled)
+            } else {
+                ended(RawItem::Def(name, parameters), tokens)
+            }
+        }
         None => {
             drop(name);
             drop(parameters);

@@ -14,7 +14,7 @@ use Rattle.spec_names.specs.Kernel.{Name, Kernel, Shape, shape_of, elements_of, 
 use Rattle.spec_scope.specs.declared.meaning.Kind.{Kind}
 use Rattle.spec_scope.specs.declared.meaning.Kind.TheVariants.{Truth, Number}
 use Rattle.spec_scope.specs.declared.meaning.Meaning.{Meaning}
-use Rattle.spec_scope.specs.declared.meaning.Meaning.TheVariants.{Argument, Variable, Local}
+use Rattle.spec_scope.specs.declared.meaning.Meaning.TheVariants.{Argument, Variable, Local, Outer}
 
 -- names with what they mean, each name once
 abbrev pub Names : Type 0
@@ -59,6 +59,12 @@ pub record Scope : Type 0 where
   pub fields : List Declared
   pub top : Names
   pub inner : Names
+  pub outer : List Name  -- the parameter of a count or a view that goes on, which is bound before all variables
+
+-- the names that are bound before those of quantifiers
+abbrev pub outer_names : Option Name → List Name
+outer_names None = []
+outer_names (Some x) = x ∷ []
 
 -- an inner name hides one of the top
 abbrev pub meaning : Scope → Name → Option Meaning
@@ -95,6 +101,7 @@ abbrev pub meant_kind : Option Meaning → Option Kind
 meant_kind (Some (Argument place w)) = Some (Number w)
 meant_kind (Some (Variable w n)) = Some (Number w)
 meant_kind (Some (Local place k reads)) = k
+meant_kind (Some (Outer w)) = option_map (λ n. Number n) w
 meant_kind _ = None
 
 abbrev pub un_kind : UnKind → Option Kind → Option Kind

@@ -15,7 +15,7 @@ use Rattle.spec_names.specs.Kernel.{Name, Shape, word, row, fields, Parts, Part,
 use Rattle.spec_scope.specs.declared.meaning.Kind.{Kind}
 use Rattle.spec_scope.specs.declared.meaning.Kind.TheVariants.{Truth, Number}
 use Rattle.spec_scope.specs.declared.meaning.Meaning.{Meaning}
-use Rattle.spec_scope.specs.declared.meaning.Meaning.TheVariants.{Constant, Argument, Variable, Local, State, Kernel}
+use Rattle.spec_scope.specs.declared.meaning.Meaning.TheVariants.{Constant, Argument, Variable, Local, Outer, State, Kernel}
 use Rattle.spec_scope.specs.Scope.{Scope, meaning, field_place, field_sort, is_among, is_width, first, resize_kind, own}
 
 abbrev pub IsNumber : Kind → Type 0
@@ -44,6 +44,7 @@ IsValue b kind y (Some (Constant n)) x = IsLiteral kind n x
 IsValue b kind y (Some (Argument place w)) x = (kind ≡ Number w) × (x ≡ tree.argument place)
 IsValue b kind y (Some (Variable w n)) x = (place : ℕ) × (position (bytes_eq y) b ≡ Some place) × (kind ≡ Number w) × (x ≡ tree.bound place w)
 IsValue b kind y (Some (Local place k reads)) x = (k ≡ Some kind) × (x ≡ tree.local place)
+IsValue b kind y (Some (Outer w)) x = (n : ℕ) × (w ≡ Some n) × (kind ≡ Number n) × (x ≡ tree.bound 0 n)
 IsValue b kind y _ x = ⊥
 
 -- a unary operator at a place that asks for a kind

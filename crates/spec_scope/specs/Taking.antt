@@ -14,7 +14,7 @@ use Rattle.spec_names.specs.Kernel.{Name, Shape, Elements, elements_of, part_of,
 use Rattle.spec_scope.specs.declared.meaning.Kind.{Kind}
 use Rattle.spec_scope.specs.declared.meaning.Kind.TheVariants.{Truth, Number}
 use Rattle.spec_scope.specs.declared.meaning.Meaning.{Meaning}
-use Rattle.spec_scope.specs.declared.meaning.Meaning.TheVariants.{Constant, Argument, Variable, Local, State, Kernel}
+use Rattle.spec_scope.specs.declared.meaning.Meaning.TheVariants.{Constant, Argument, Variable, Local, Outer, State, Kernel}
 use Rattle.spec_scope.specs.Scope.{Scope, meaning, field_place, field_sort, is_among, first, resize_kind, own}
 use Rattle.spec_scope.specs.Takes.{is_literal, fits_resize, is_sized, index_kind}
 
@@ -68,11 +68,17 @@ abbrev pub local_at : Kind → Option Kind → ℕ → Option tree.Tree
 local_at kind None place = None
 local_at kind (Some k) place = given_at kind k (tree.local place)
 
+-- the parameter of a count or a view is the first of the bound variables
+abbrev pub outer_at : Kind → Option ℕ → Option tree.Tree
+outer_at kind None = None
+outer_at kind (Some w) = given_at kind (Number w) (tree.bound 0 w)
+
 abbrev pub value_at : List Name → Kind → Name → Option Meaning → Option tree.Tree
 value_at b kind x (Some (Constant n)) = literal_at kind n
 value_at b kind x (Some (Argument place w)) = given_at kind (Number w) (tree.argument place)
 value_at b kind x (Some (Variable w n)) = bound_at kind w (position (bytes_eq x) b)
 value_at b kind x (Some (Local place k reads)) = local_at kind k place
+value_at b kind x (Some (Outer w)) = outer_at kind w
 value_at b kind x _ = None
 
 -- ---- operators
@@ -211,3 +217,7 @@ abbrev mutual
       chain (elements_of shape)
       (λ r. chain (index_at (index_kind (own s e)) (take s b (index_kind (own s e)) e)) (λ y. one (led_by r y) (lead s b steps r.shape)))
   lead s b (step_and (member k) steps) shape = chain (part_of k shape) (λ r. one (led_in r.offset) (lead s b steps r.shape))
+
+-- the sizes of variables, and what is taken under them at a kind
+abbrev pub over : Scope → List Name → List Name → Kind → Tree → Option (List ℕ × tree.Tree)
+over s b xs kind a = chain (sizes_of s b xs) (λ sizes. one (λ y. (sizes, y)) (take s (b ++ xs) kind a))

@@ -5,7 +5,7 @@ use Rattle.spec_ast.specs.Raw.{Tree, literal, truth, named, read, read_at, path,
 use Rattle.spec_tree.specs.Sorted.{product}
 use Rattle.spec_names.specs.Kernel.{Name, global_place}
 use Rattle.spec_scope.specs.declared.meaning.Meaning.{Meaning}
-use Rattle.spec_scope.specs.declared.meaning.Meaning.TheVariants.{Constant, Argument, Variable, Local, State, Kernel}
+use Rattle.spec_scope.specs.declared.meaning.Meaning.TheVariants.{Constant, Argument, Variable, Local, Outer, State, Kernel}
 use Rattle.spec_scope.specs.Scope.{Scope, meaning, field_place, is_among, bound_behind, leaf_of}
 
 abbrev mutual
@@ -44,6 +44,7 @@ is_value b x (Some (Constant n)) = true
 is_value b x (Some (Argument place w)) = true
 is_value b x (Some (Variable w n)) = is_among x b
 is_value b x (Some (Local place k reads)) = true
+is_value b x (Some (Outer w)) = true
 is_value b x _ = false
 
 abbrev pub is_state : Option Meaning → Bool
@@ -99,7 +100,7 @@ is_wide s b (for_all xs a) = nat_lt (2 ^ 20) (tuples_of s (bound_behind b xs))
 is_wide s b (exists xs a) = nat_lt (2 ^ 20) (tuples_of s (bound_behind b xs))
 is_wide s b _ = false
 
--- ---- a read of a state, or a local name of the equivalence function that stands for one
+-- ---- a read of a state, or a local name of the equivalence function or of a count that stands for one
 
 abbrev pub is_state_local : Option Meaning → Bool
 is_state_local (Some (Local place k reads)) = reads
@@ -111,6 +112,17 @@ is_read s b (read_at o f es) = true
 is_read s b (named x) = is_state_local (meaning s x)
 is_read s b _ = false
 
+-- ---- the parameter of a count or a view whose return line names no sort for it, or a local name behind one
+
+abbrev pub has_no_sort : Option Meaning → Bool
+has_no_sort (Some (Outer w)) = is_none w
+has_no_sort (Some (Local place k reads)) = is_none k
+has_no_sort _ = false
+
+abbrev pub is_unsorted : Scope → List Name → Tree → Bool
+is_unsorted s b (named x) = has_no_sort (meaning s x)
+is_unsorted s b _ = false
+
 -- what the parts of an expression are found to be
 pub record Findings : Type 0 where
   pub unknown : Bool
@@ -118,6 +130,7 @@ pub record Findings : Type 0 where
   pub no_leaf : Bool
   pub wide : Bool
   pub reads : Bool
+  pub unsorted : Bool
 
 abbrev pub findings : Scope → List Name → Tree → Findings
 findings s b e =
@@ -127,4 +140,5 @@ findings s b e =
       no_leaf = somewhere (is_no_leaf s) b e;
       wide = somewhere (is_wide s) b e;
       reads = somewhere (is_read s) b e;
+      unsorted = somewhere (is_unsorted s) b e;
     }

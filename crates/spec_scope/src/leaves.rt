@@ -66,6 +66,11 @@ pub fn infer_name(
             tree: Expr::Local(place),
         })),
         Some(Meaning::Local(_, None, _)) => Err(TakeStop::Unfit),
+        Some(Meaning::Outer(Some(width))) => Ok(Some(Typed {
+            kind: Kind::Number(width),
+            tree: Expr::Bound(0, width),
+        })),
+        Some(Meaning::Outer(None)) => Err(TakeStop::Unfit),
         Some(Meaning::Sort(_))
         | Some(Meaning::State(_))
         | Some(Meaning::Kernel)

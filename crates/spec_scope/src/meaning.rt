@@ -19,8 +19,11 @@ pub enum Meaning {
     /// A variable for quantifiers: the width and the size of its index sort.
     Variable(u32, u32),
     /// A local name: its place, the kind that its line gives, and whether it is a local name of the equivalence function that reads the
-    /// state, which has no place.
+    /// state, which has no place, or one of a count that reads the state.
     Local(u32, Option<Kind>, bool),
+    /// The parameter of a count or a view, which is bound in the whole function, before all variables: the width of its index sort. It has
+    /// none where the return line names none.
+    Outer(Option<u32>),
     State(StateName),
     /// The name `kernel` where it stands for the kernel.
     Kernel,

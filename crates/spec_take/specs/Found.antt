@@ -5,14 +5,14 @@ use Rattle.spec_ast.specs.Raw.{Tree, Trees, Step, Steps, element, member}
 use Rattle.spec_names.specs.Kernel.{Name}
 use Rattle.spec_scope.specs.Scope.{Scope, meaning, bound_behind}
 use Rattle.spec_scope.specs.Tests as tests
-use Rattle.spec_scope.specs.Tests.{somewhere_among, somewhere_in, is_unknown, is_rebound, is_no_leaf, is_wide, is_read, is_variable, tuples_of, are_new}
+use Rattle.spec_scope.specs.Tests.{somewhere_among, somewhere_in, is_unknown, is_rebound, is_no_leaf, is_wide, is_read, is_unsorted, is_variable, tuples_of, are_new}
 use Rattle.spec_take.specs.declared.found.Findings.{Findings}
 
 abbrev pub view_findings : Findings → tests.Findings
-view_findings f = record { unknown = f.unknown; rebound = f.rebound; no_leaf = f.no_leaf; wide = f.wide; reads = f.reads }
+view_findings f = record { unknown = f.unknown; rebound = f.rebound; no_leaf = f.no_leaf; wide = f.wide; reads = f.reads; unsorted = f.unsorted }
 
 abbrev pub nothing_found : tests.Findings
-nothing_found = record { unknown = false; rebound = false; no_leaf = false; wide = false; reads = false }
+nothing_found = record { unknown = false; rebound = false; no_leaf = false; wide = false; reads = false; unsorted = false }
 
 -- what is found in one or the other
 abbrev pub either : tests.Findings → tests.Findings → tests.Findings
@@ -23,6 +23,7 @@ either f g =
       no_leaf = f.no_leaf || g.no_leaf;
       wide = f.wide || g.wide;
       reads = f.reads || g.reads;
+      unsorted = f.unsorted || g.unsorted;
     }
 
 abbrev pub findings_among : Scope → List Name → Trees → tests.Findings
@@ -33,6 +34,7 @@ findings_among s b es =
       no_leaf = somewhere_among (is_no_leaf s) b es;
       wide = somewhere_among (is_wide s) b es;
       reads = somewhere_among (is_read s) b es;
+      unsorted = somewhere_among (is_unsorted s) b es;
     }
 
 abbrev pub findings_in : Scope → List Name → Steps → tests.Findings
@@ -43,6 +45,7 @@ findings_in s b steps =
       no_leaf = somewhere_in (is_no_leaf s) b steps;
       wide = somewhere_in (is_wide s) b steps;
       reads = somewhere_in (is_read s) b steps;
+      unsorted = somewhere_in (is_unsorted s) b steps;
     }
 
 abbrev pub findings_step : Scope → List Name → Step → tests.Findings
@@ -52,7 +55,7 @@ findings_step s b (member k) = nothing_found
 -- of an expression itself, without its parts
 abbrev pub findings_at : Scope → List Name → Tree → tests.Findings
 findings_at s b e =
-    record { unknown = is_unknown s b e; rebound = is_rebound b e; no_leaf = is_no_leaf s b e; wide = is_wide s b e; reads = is_read s b e }
+    record { unknown = is_unknown s b e; rebound = is_rebound b e; no_leaf = is_no_leaf s b e; wide = is_wide s b e; reads = is_read s b e; unsorted = is_unsorted s b e }
 
 -- of a quantifier's variables
 abbrev pub findings_of : Scope → List Name → List Name → tests.Findings
@@ -63,6 +66,7 @@ findings_of s b xs =
       no_leaf = false;
       wide = nat_lt (2 ^ 20) (tuples_of s (bound_behind b xs));
       reads = false;
+      unsorted = false;
     }
 
 -- more than 2^20 index tuples are told apart no more

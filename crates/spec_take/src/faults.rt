@@ -86,6 +86,7 @@ fn of_names(opened: &Opened) -> Findings
     ensures no_leaf { result.no_leaf ≡ false }
     ensures wide { (n : ℕ) → opened.now.tuples ≡ capped n → result.wide ≡ nat_lt (2 ^ 20) n }
     ensures reads { result.reads ≡ false }
+    ensures unsorted { result.unsorted ≡ false }
 {
     Findings {
         unknown: opened.unknown,
@@ -93,6 +94,7 @@ fn of_names(opened: &Opened) -> Findings
         no_leaf: false,
         wide: opened.tuples > 1 << 20,
         reads: false,
+        unsorted: false,
     }
 }
 
@@ -208,7 +210,7 @@ fn in_steps<'e>(
 /// What a quantifier and the expression that it holds are found to be.
 #[tactic(auto, using(crate::proofs::Tuples::cut_behind))]
 #[cycle(faults)]
-fn in_quantifier<'e>(
+pub fn in_quantifier<'e>(
     scope: &Scope<'_>,
     bound: &mut BoundNames<'e>,
     tuples: u64,

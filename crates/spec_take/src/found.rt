@@ -24,6 +24,8 @@ pub struct Findings {
     pub wide: bool,
     /// A read of a state.
     pub reads: bool,
+    /// The parameter of a count or a view without a sort, or a local name without a width.
+    pub unsorted: bool,
 }
 
 /// Nothing.
@@ -36,6 +38,7 @@ pub(crate) fn nothing() -> Findings
         no_leaf: false,
         wide: false,
         reads: false,
+        unsorted: false,
     }
 }
 
@@ -49,6 +52,7 @@ pub(crate) fn either(f: Findings, g: Findings) -> Findings
         no_leaf: f.no_leaf || g.no_leaf,
         wide: f.wide || g.wide,
         reads: f.reads || g.reads,
+        unsorted: f.unsorted || g.unsorted,
     }
 }
 
@@ -61,6 +65,7 @@ fn is_value(bound: &BoundNames<'_>, name: &[u8], meaning: Option<Meaning>) -> bo
         Some(Meaning::Argument(_, _)) => true,
         Some(Meaning::Variable(_, _)) => bound.place(name).is_some(),
         Some(Meaning::Local(_, _, _)) => true,
+        Some(Meaning::Outer(_)) => true,
         _ => false,
     }
 }
@@ -96,6 +101,17 @@ fn is_state_local(meaning: Option<Meaning>) -> bool
     }
 }
 
+/// Whether a name is the parameter of a count or a view without a sort, or a local name without a width.
+fn has_no_sort(meaning: Option<Meaning>) -> bool
+    ensures { result ≡ definition.has_no_sort meaning }
+{
+    match meaning {
+        Some(Meaning::Outer(width)) => width.is_none(),
+        Some(Meaning::Local(_, kind, _)) => kind.is_none(),
+        _ => false,
+    }
+}
+
 /// What a name is found to be.
 pub(crate) fn of_name(scope: &Scope<'_>, bound: &BoundNames<'_>, name: &[u8]) -> Findings
     ensures { view_findings result ≡ findings_at (view_scope scope.now) bound.now (raw.named name.now) }
@@ -107,6 +123,7 @@ pub(crate) fn of_name(scope: &Scope<'_>, bound: &BoundNames<'_>, name: &[u8]) ->
         no_leaf: false,
         wide: false,
         reads: is_state_local(meaning),
+        unsorted: has_no_sort(meaning),
     }
 }
 
@@ -120,6 +137,7 @@ pub(crate) fn of_read(scope: &Scope<'_>, state: &[u8], field: &[u8]) -> Findings
         no_leaf: false,
         wide: false,
         reads: true,
+        unsorted: false,
     }
 }
 
@@ -134,5 +152,6 @@ pub(crate) fn of_path(scope: &Scope<'_>, global: &[u8], steps: &RawSteps) -> Fin
         no_leaf: known && leaf_of(scope.kernel, global, steps).is_none(),
         wide: false,
         reads: false,
+        unsorted: false,
     }
 }

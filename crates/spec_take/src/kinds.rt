@@ -88,6 +88,7 @@ pub(crate) fn meant(meaning: Option<Meaning>) -> OwnKind
         Some(Meaning::Argument(_, w)) => OwnKind::Known(Kind::Number(w)),
         Some(Meaning::Variable(w, _)) => OwnKind::Known(Kind::Number(w)),
         Some(Meaning::Local(_, kind, _)) => given(kind),
+        Some(Meaning::Outer(Some(w))) => OwnKind::Known(Kind::Number(w)),
         _ => OwnKind::Absent,
     }
 }

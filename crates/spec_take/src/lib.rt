@@ -14,9 +14,9 @@ mod paths;
 mod taken;
 mod widths;
 
-pub use faults::{faults_of, tuples_with};
+pub use faults::{faults_of, in_quantifier, tuples_with};
 pub use fitting::fits_some;
 pub use found::Findings;
 pub use kinds::OwnKind;
-pub use taken::{indices, take};
+pub use taken::{indices, over, take};
 pub use widths::{first_of, own};

@@ -525,6 +525,23 @@ fn quantified<'e>(
     Ok((sizes, tree))
 }
 
+/// The sizes of variables, and what an expression stands for under them at a place that asks for a kind. Behind an error `bound` may
+/// have names more.
+pub fn over<'e>(
+    alloc: Global,
+    scope: &Scope<'_>,
+    bound: &mut BoundNames<'e>,
+    names: &'e NameList,
+    kind: Kind,
+    a: &'e RawExpr,
+) -> Result<(SizeList, Expr), TakeStop>
+    ensures { Gives (λ p. (p.0, view_expr p.1)) result (definition.over (view_scope scope.now) bound.old names.now kind (view_raw a.now)) }
+{
+    let sizes = bind(alloc, scope, bound, names.as_slice())?;
+    let tree = take(alloc, scope, bound, kind, a)?;
+    Ok((sizes, tree))
+}
+
 /// `ForAll([v, ..], b)`.
 #[cycle(take)]
 fn for_all_at<'e>(

@@ -33,6 +33,8 @@ fn production(item: &RawItem) -> &'static str {
         RawItem::Return(_) => "return",
         RawItem::End(_, _, None) => "end",
         RawItem::End(_, _, Some(_)) => "result",
+        RawItem::Count(_, _, _) => "count",
+        RawItem::View(_, _) => "view",
     }
 }
 

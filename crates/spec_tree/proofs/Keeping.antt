@@ -1,7 +1,8 @@
 -- What is read keeps fitting what may be named, behind local names, variables and writes; so states keep their shapes.
-use Rattle.std.proofs.Common.{◌≡◌, ◌^◌, ◌<◌, ◌≤◌, ℕ, zero, suc, Bool, true, false, Option, Some, None, List, [], ◌∷◌, ◌++◌, map, arith, ap, sym, ◌∙◌, subst, refl}
-use Rattle.std.specs.Prelude.{slice_get, slice_index, slice_index_or, slice_set, All, if◌then◌else◌, ◌&&◌, option_map, count_by, length}
+use Rattle.std.proofs.Common.{◌≡◌, ◌^◌, ◌<◌, ◌≤◌, ℕ, zero, suc, Bool, true, false, Option, Some, None, List, [], ◌∷◌, ◌++◌, map, length, arith, ap, sym, ◌∙◌, subst, refl}
+use Rattle.std.specs.Prelude.{slice_get, slice_index, slice_index_or, slice_set, All, if◌then◌else◌, ◌&&◌, option_map}
 use Rattle.std.proofs.lemmas.List.{length-map, length-set, get_or-map}
+use Rattle.std.proofs.lemmas.List.Sums.{count_by-le-length}
 use Rattle.std.proofs.lemmas.List.Elements.{All-head, All-tail, All-map, All-set}
 use Rattle.spec_tree.specs.Plain.{Key, Tree, Trees, Field, Line, let_line, write_line, Transition, CountProperty, Spec}
 use Rattle.spec_tree.specs.Sorted.{Context, FieldSort, no_field, product, key_sizes, width_of, with_bounds, with_local, with_locals, IsSorted, AreLocals, AreLines, lets_of, sort_of, field_sorts, over_kernel, over_step, over_keys, behind_lines, IsField, IsResult, IsTransition, IsWellSorted, IsWidth, IsFieldSort, HasLimits, over_state, over_outer}
@@ -170,16 +171,8 @@ between_fits s before after h k = record { old = λ e. h; new = λ e. k; memory 
 pub outer_fits : (s : Spec) (size n : ℕ) (state : State) → IsState (field_sorts s) state → n < size → Fits (over_outer s size) (binding (in_state state) (n ∷ []))
 outer_fits s size n state h l = record { old = λ e. h; new = λ e. cc; memory = λ e. cc; args = refl; locals = refl; bounds = (l, refl) }
 
-one_more : (t : Bool) (n m : ℕ) → n ≤ m → (if t then suc n else n) ≤ suc m
-one_more true n m h = omega (arith, h)
-one_more false n m h = omega (arith, h)
-
-few_of : {A : Type 0} (test : A → Bool) (xs : List A) → count_by test xs ≤ length xs
-few_of test [] = omega arith
-few_of test (x ∷ xs) = one_more (test x) (count_by test xs) (length xs) (few_of test xs)
-
 pub counted_few : (s : Spec) (c : CountProperty) (state : State) (f : ℕ) → count_of s c state f ≤ product c.bound
 counted_few s c state f =
-    let few = few_of (is_counted s c state f) (tuples c.bound) in
+    let few = count_by-le-length (is_counted s c state f) (tuples c.bound) in
     let all : length (tuples c.bound) ≡ product c.bound = how_many c.bound in
     omega (arith, few, all)
