@@ -1,12 +1,14 @@
 //! The return line of a count: why it is refused, and what it adds.
 
-ghost use Rattle.std.specs.Prelude.{◌≡◌, ◌≤◌, ◌*◌, ◌<◌, ◌^◌, ℕ, List, map, option_map, OnOk, IfOk};
+ghost use Rattle.std.specs.Prelude.{◌≡◌, ◌≤◌, ◌*◌, ◌+◌, ◌<◌, ◌^◌, ℕ, List, map, option_map, OnOk, IfOk};
 ghost use Rattle.spec_ast.specs.View.{view_expr as view_raw, view_expr_list as view_raws, view_step_list as view_raw_steps, view_item};
-ghost use Rattle.spec_tree.specs.View.{view_expr};
+ghost use Rattle.spec_tree.specs.View.{view_expr, view_count};
 ghost use Rattle.spec_scope.specs.Fields.{view_sort};
 ghost use Rattle.spec_scope.specs.Tests as tests;
 ghost use Rattle.spec_scope.specs.View.{view_scope};
-ghost use Rattle.spec_take.specs.Found.{told_tuples};
+ghost use Rattle.spec_take.specs.Found.{told_tuples, capped};
+ghost use Rattle.spec_ast.specs.Raw as raw;
+ghost use Rattle.spec_ast.specs.Depth.{tree_list};
 ghost use Rattle.spec_lines.specs.Behind as plain;
 ghost use Rattle.spec_lines.specs.Faults as faults;
 ghost use Rattle.spec_lines.specs.Whole as definition;
@@ -138,7 +140,7 @@ fn told(scope: &Scope<'_>, names: &[Name]) -> u64
 /// Whether so many tuples are more than the numbers of a field can tell, or too many with all its entries.
 fn is_over(sort: Option<&FieldSort>, tuples: u64) -> bool
     requires { tuples ≤ 2 ^ 20 + 1 }
-    ensures { (n : ℕ) → tuples ≡ tests_capped n → result ≡ faults.is_over (option_map (λ f. view_sort f.now) sort.entry) n }
+    ensures { (n : ℕ) → tuples ≡ capped n → result ≡ faults.is_over (option_map (λ f. view_sort f.now) sort.entry) n }
 {
     match sort {
         Some(sort) => {
@@ -176,6 +178,7 @@ fn count_with(
     bound: SizeList,
     value: Expr,
 ) -> Result<CountProperty, AllocError>
+    ensures { IfOk result (λ c. view_count c ≡ record { line = line; name = name.now; field = field; bound = bound; locals = map view_expr locals.items; value = view_expr value }) }
 {
     let name = Name::copy_of(alloc, name)?;
     let locals = ExprList { items: locals };

@@ -18,7 +18,9 @@ pub mod made;
 pub mod passes;
 pub mod sorts;
 pub mod step;
+pub mod subject;
 pub mod values;
+pub mod viewed;
 
 pub use function::FunctionKind;
 pub use here::{Head, Here};

@@ -1,8 +1,8 @@
 //! The return line of a view: what it adds.
 
-ghost use Rattle.std.specs.Prelude.{◌≡◌, [], map, option_map, OnOk};
+ghost use Rattle.std.specs.Prelude.{◌≡◌, [], map, option_map, OnOk, IfOk};
 ghost use Rattle.spec_ast.specs.View.{view_expr as view_raw, view_shown as view_raw_shown};
-ghost use Rattle.spec_tree.specs.View.{view_expr, view_shown, view_key};
+ghost use Rattle.spec_tree.specs.View.{view_expr, view_shown, view_view, view_key};
 ghost use Rattle.spec_scope.specs.View.{view_scope};
 ghost use Rattle.spec_take.specs.Answers.{Gives};
 ghost use Rattle.spec_lines.specs.Faults as faults;
@@ -59,7 +59,9 @@ fn view_with(
     size: u32,
     locals: Vec<Expr>,
     shown: Vec<Shown>,
-) -> Result<View, AllocError> {
+) -> Result<View, AllocError>
+    ensures { IfOk result (λ v. view_view v ≡ record { line = line; name = name.now; size = size; locals = map view_expr locals.items; shown = map view_shown shown.items }) }
+{
     let name = Name::copy_of(alloc, name)?;
     let locals = ExprList { items: locals };
     Ok(View {

@@ -1,5 +1,5 @@
 -- What is named and what is read, of the code.
-use Rattle.std.specs.Prelude.{Bool, true, false}
+use Rattle.std.specs.Prelude.{ℕ, Bool, true, false}
 use Rattle.spec_tree.specs.View.{Place, view_spec}
 use Rattle.spec_tree.specs.Plain.{Tree, path}
 use Rattle.spec_tree.specs.Sorted.{Context, field_sorts, HasLimits}
@@ -8,7 +8,7 @@ use Rattle.spec_tree.specs.Shapes.{Fits}
 use Rattle.spec_number.specs.Scope.{Scope}
 use Rattle.spec_number.specs.declared.reading.Reading.{Reading}
 use Rattle.spec_number.specs.declared.reading.Source.{Source}
-use Rattle.spec_number.specs.declared.reading.Source.TheVariants.{Kernel, Step}
+use Rattle.spec_number.specs.declared.reading.Source.TheVariants.{Kernel, Step, Outer}
 
 abbrev pub reads_kernel : Source → Bool
 reads_kernel Kernel = true
@@ -22,6 +22,11 @@ abbrev pub reads_new : Source → Bool
 reads_new Step = true
 reads_new _ = false
 
+-- how many of the first variables are the parameter of a count or a view
+abbrev pub outer_of : Source → ℕ
+outer_of Outer = 1
+outer_of _ = 0
+
 -- what may be named
 abbrev pub context_of : Reading → Scope → Context
 context_of r s =
@@ -31,6 +36,7 @@ context_of r s =
       args = r.widths.now;
       locals = s.widths;
       bounds = s.sizes;
+      outer = outer_of r.source;
       kernel = reads_kernel r.source;
       old = reads_old r.source;
       new = reads_new r.source;

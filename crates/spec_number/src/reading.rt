@@ -20,6 +20,8 @@ pub enum Source {
     State,
     /// The state that came in, and the copy.
     Step,
+    /// One abstract state, by the name of the old one, behind the parameter of a count or a view, which is the first variable.
+    Outer,
 }
 
 /// What an expression reads, but for local names and variables. What it does not read may be empty.

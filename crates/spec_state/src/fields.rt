@@ -17,7 +17,7 @@ use spec_value::{AbstractState, EntryList, count};
 use std::alloc::{AllocError, Global};
 
 // The size of a key.
-fn size_in(key: &Sort) -> u32
+pub(crate) fn size_in(key: &Sort) -> u32
     ensures { result ≡ size_of key.now.size }
 {
     match key.size {
@@ -38,7 +38,7 @@ fn sizes_of(alloc: Global, keys: &[Sort]) -> Result<Vec<u32>, AllocError>
 }
 
 // The number of an expression at the k-th index tuple of its variables.
-fn number_at(
+pub(crate) fn number_at(
     reading: &Reading,
     frame: &mut Frame,
     sizes: &[u32],

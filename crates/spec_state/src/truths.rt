@@ -1,9 +1,9 @@
 //! Invariants and properties.
 
-ghost use Rattle.std.specs.Prelude.{◌≡◌, ◌<◌, Some, slice_get, length, IfOk};
+ghost use Rattle.std.specs.Prelude.{◌≡◌, ◌<◌, [], Some, slice_get, length, IfOk};
 ghost use Rattle.std.specs.List.{list_all};
 ghost use Rattle.spec_tree.specs.Plain as plain;
-ghost use Rattle.spec_tree.specs.Sorted.{IsNamed, IsWellSorted, over_kernel, over_state, field_sorts};
+ghost use Rattle.spec_tree.specs.Sorted.{IsNamed, IsWellSorted, over_kernel, over_state, over_step, field_sorts};
 ghost use Rattle.spec_tree.specs.Shapes.{IsMemory, IsState};
 ghost use Rattle.spec_tree.specs.View.{view_spec, view_named};
 ghost use Rattle.spec_tree.specs.Meaning as meaning;
@@ -66,6 +66,34 @@ fn holds_in_state(
     Ok(holds_in(&reading, &mut frame, &named.body)?)
 }
 
+// Whether a step property holds of two abstract states.
+fn holds_between(
+    alloc: Global,
+    spec: &Spec,
+    named: &Named,
+    before: &AbstractState,
+    after: &AbstractState,
+) -> Result<bool, AllocError>
+    requires spec { IsWellSorted (view_spec spec.now) }
+    requires named { IsNamed (over_step (view_spec spec.now) []) (view_named named.now) }
+    requires before { IsState (field_sorts (view_spec spec.now)) before.now }
+    requires after { IsState (field_sorts (view_spec spec.now)) after.now }
+    ensures { IfOk result (λ b. b ≡ meaning.step_holds (view_spec spec.now) (view_named named.now) before.now after.now) }
+{
+    let memory = KMemory::new(Vec::new(alloc));
+    let reading = Reading {
+        spec,
+        source: Source::Step,
+        old: before.as_slice(),
+        new: after.as_slice(),
+        memory: &memory,
+        widths: &[],
+        args: &[],
+    };
+    let mut frame = Frame::new(alloc);
+    Ok(holds_in(&reading, &mut frame, &named.body)?)
+}
+
 /// Whether the invariant with this place holds in a machine state.
 ///
 /// The conditions are a well-sorted specification, an invariant that exists, and a memory of the specification's objects.
@@ -100,6 +128,26 @@ pub fn property_holds(
 {
     let named = &spec.properties.as_slice()[p as usize];
     Ok(holds_in_state(alloc, spec, named, state)?)
+}
+
+/// Whether the step property with this place holds of the state before a transition and its end state.
+///
+/// The conditions are a well-sorted specification, a step property that exists, and states of the specification's shape.
+pub fn step_holds(
+    alloc: Global,
+    spec: &Spec,
+    k: u32,
+    before: &AbstractState,
+    after: &AbstractState,
+) -> Result<bool, AllocError>
+    requires spec { IsWellSorted (view_spec spec.now) }
+    requires there { k < length spec.now.steps }
+    requires before { IsState (field_sorts (view_spec spec.now)) before.now }
+    requires after { IsState (field_sorts (view_spec spec.now)) after.now }
+    ensures { (n : plain.Named) → slice_get (view_spec spec.now).steps k ≡ Some n → IfOk result (λ b. b ≡ meaning.step_holds (view_spec spec.now) n before.now after.now) }
+{
+    let named = &spec.steps.as_slice()[k as usize];
+    Ok(holds_between(alloc, spec, named, before, after)?)
 }
 
 /// Whether all invariants hold in a machine state. It stops at the first one that is false.
