@@ -28,7 +28,7 @@ impl<R: InitialReads> SymReads for StateReads<'_, R> {
     ghost use Rattle.hk_symspec.specs.Standing.{entry_base};
     ghost use Rattle.hk_symspec.specs.KeptLaws.{IsReadOver, read_over_kept, state_kept, later_kept, kernel_at_kept};
 
-    ghost named = { λ s. record { fields = field_sorts (view_spec s.spec.now); objects = s.spec.now.objects; args = []; locals = []; bounds = []; kernel = false; old = true; new = s.both } };
+    ghost named = { λ s. record { fields = field_sorts (view_spec s.spec.now); objects = s.spec.now.objects; args = []; locals = []; bounds = []; outer = 0; kernel = false; old = true; new = s.both } };
 
     ghost is_over = { λ s nodes. IsWellSorted (view_spec s.spec.now) × IsReadOver (view_spec s.spec.now) nodes s.state.now s.writes.now };
 

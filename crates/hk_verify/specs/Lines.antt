@@ -6,7 +6,7 @@ use Rattle.std.specs.Fmt.{decimal}
 use Rattle.ir_ast.specs.declared.fault.KernelReason.{KernelReason}
 use Rattle.ir_ast.specs.declared.fault.KernelReason.TheVariants.{K1, K2, K3, K4, K5, K6, K7, K8, K9, K10, K11, K12, K13, K14, K15}
 use Rattle.spec_ast.specs.declared.fault.SpecReason.{SpecReason}
-use Rattle.spec_ast.specs.declared.fault.SpecReason.TheVariants.{S1, S2, S3, S4, S5, S6, S7, S8, S9, S10, S11, S12, S13, S14, S15}
+use Rattle.spec_ast.specs.declared.fault.SpecReason.TheVariants.{S1, S2, S3, S4, S5, S6, S7, S8, S9, S10, S11, S12, S13, S14, S15, S16, S17}
 use Rattle.hk_cert_lines.specs.declared.reason.CertReason.{CertReason}
 use Rattle.hk_cert_lines.specs.declared.reason.CertReason.TheVariants.{Q1, Q2, Q3}
 use Rattle.hk_cnf.specs.declared.dimacs_read.CnfReason.{CnfReason}
@@ -55,6 +55,8 @@ spec_code S12 = codes "S12"
 spec_code S13 = codes "S13"
 spec_code S14 = codes "S14"
 spec_code S15 = codes "S15"
+spec_code S16 = codes "S16"
+spec_code S17 = codes "S17"
 
 abbrev pub cert_code : CertReason → List ℕ
 cert_code Q1 = codes "Q1"

@@ -84,6 +84,8 @@ fn spec_reason(reason: SpecReason) -> &'static [u8]
         SpecReason::S13 => b"S13",
         SpecReason::S14 => b"S14",
         SpecReason::S15 => b"S15",
+        SpecReason::S16 => b"S16",
+        SpecReason::S17 => b"S17",
     }
 }
 

@@ -2,14 +2,14 @@
 use Rattle.std.proofs.Common.{◌≡◌, ℕ, ◌+◌, ◌≤◌, ◌⊎◌, inl, inr, Bool, true, false, if◌then◌else◌, Option, Some, None, List, [], ◌∷◌, refl, sym, ◌∙◌, ap, arith}
 use Rattle.std.specs.Prelude.{slice_index_or}
 use Rattle.spec_ast.specs.declared.fault.SpecReason.{SpecReason}
-use Rattle.spec_ast.specs.declared.fault.SpecReason.TheVariants.{S1, S2, S3, S4, S5, S6, S7, S8, S9, S10, S11, S12, S13, S14, S15}
+use Rattle.spec_ast.specs.declared.fault.SpecReason.TheVariants.{S1, S2, S3, S4, S5, S6, S7, S8, S9, S10, S11, S12, S13, S14, S15, S16, S17}
 use Rattle.spec_ast.specs.Raw.{Item, Line}
 use Rattle.spec_lines.specs.Behind.{Here, behind}
 use Rattle.spec_lines.specs.Faults.{Text, falls, least_of, reasons, fault_of}
 use Rattle.spec_lines.specs.Whole.{first_of, first_from}
 use Rattle.spec_lines.specs.Laws.{number_of, Stands, FallsFirst, IsLeast, AllStand, IsFirst, Tells}
 
-numbered : (r : SpecReason) → (1 ≤ number_of r) × (number_of r ≤ 15)
+numbered : (r : SpecReason) → (1 ≤ number_of r) × (number_of r ≤ 17)
 numbered S1 = (omega arith, omega arith)
 numbered S2 = (omega arith, omega arith)
 numbered S3 = (omega arith, omega arith)
@@ -25,9 +25,11 @@ numbered S12 = (omega arith, omega arith)
 numbered S13 = (omega arith, omega arith)
 numbered S14 = (omega arith, omega arith)
 numbered S15 = (omega arith, omega arith)
+numbered S16 = (omega arith, omega arith)
+numbered S17 = (omega arith, omega arith)
 
 abbrev all_reasons : List SpecReason
-all_reasons = S15 ∷ S1 ∷ S2 ∷ S3 ∷ S4 ∷ S5 ∷ S6 ∷ S7 ∷ S8 ∷ S9 ∷ S10 ∷ S11 ∷ S12 ∷ S13 ∷ S14 ∷ S15 ∷ []
+all_reasons = S15 ∷ S1 ∷ S2 ∷ S3 ∷ S4 ∷ S5 ∷ S6 ∷ S7 ∷ S8 ∷ S9 ∷ S10 ∷ S11 ∷ S12 ∷ S13 ∷ S14 ∷ S15 ∷ S16 ∷ S17 ∷ []
 
 abbrev reason_of : ℕ → SpecReason
 reason_of n = slice_index_or all_reasons n S15
@@ -48,6 +50,8 @@ back S12 = refl
 back S13 = refl
 back S14 = refl
 back S15 = refl
+back S16 = refl
+back S17 = refl
 
 same : (q r : SpecReason) → number_of q ≡ number_of r → q ≡ r
 same q r e = sym (back q) ∙ (ap reason_of e ∙ back r)
@@ -74,7 +78,9 @@ step holds n r (Some p) is rest false e = (rest.0, omega (arith, rest.1), λ q l
 
 from_five : (holds : SpecReason → Bool) → From holds 5 (least_of holds reasons)
 from_five holds =
-    let a : From holds 16 None = λ r l. absurd (omega (arith, (numbered r).1, l)) in
+    let none : From holds 18 None = λ r l. absurd (omega (arith, (numbered r).1, l)) in
+    let m = step holds 17 S17 _ refl none (holds S17) refl in
+    let a = step holds 16 S16 _ refl m (holds S16) refl in
     let b = step holds 15 S15 _ refl a (holds S15) refl in
     let c = step holds 14 S14 _ refl b (holds S14) refl in
     let d = step holds 13 S13 _ refl c (holds S13) refl in
@@ -104,6 +110,8 @@ low t h item S12 = inl (omega arith)
 low t h item S13 = inl (omega arith)
 low t h item S14 = inl (omega arith)
 low t h item S15 = inl (omega arith)
+low t h item S16 = inl (omega arith)
+low t h item S17 = inl (omega arith)
 
 least_by : (t : Text) (h : Here) (item : Item) (o : Option SpecReason) → From (falls t h item) 5 o → IsLeast t h item o
 least_by t h item None from = λ r. stands r (low t h item r) where

@@ -22,7 +22,7 @@ pub struct Head<'s> {
 }
 
 /// What the return line of a count or a view says of the sort of its parameter.
-#[derive(Clone, Copy, Debug)]
+#[derive(Clone, Copy)]
 pub enum Subject<'s> {
     /// The key of the field of this name.
     Field(&'s [u8]),

@@ -73,6 +73,16 @@ nest_behind ns is sizes below h =
     let more : 1 * product sizes ≤ product ns * product sizes = mul-le-mul_right (product sizes) (some_below ns is below) in
     omega (arith, h, product_append ns sizes, more)
 
+below_drop : (k : ℕ) (ns is : List ℕ) → AreBelow ns is → AreBelow (drop k ns) (drop k is)
+below_drop zero ns is h = h
+below_drop (suc k) [] is h = subst (λ l. AreBelow (drop (suc k) []) (drop (suc k) l)) (sym h) refl
+below_drop (suc k) (n ∷ ns) [] h = absurd h
+below_drop (suc k) (n ∷ ns) (i ∷ is) h = below_drop k ns is h.1
+
+-- the parameter of a count or a view is of no nest
+pub nest_within : (k : ℕ) (ns is sizes : List ℕ) → AreBelow ns is → IsNest (drop k ns ++ sizes) → IsNest sizes
+nest_within k ns is sizes below h = nest_behind (drop k ns) (drop k is) sizes (below_drop k ns is below) h
+
 pub stands_entered : (r : Reading) (s t : Scope) (sizes : List ℕ) (k : ℕ) → Stands r s → k < product sizes → t ≡ entered s sizes (tuple_at sizes k) → Stands r t
 stands_entered r s t sizes k h low e =
     let each : AreBelow sizes (tuple_at sizes k) = subst (AreBelow sizes) (tuple_is sizes k [] low) (all_below sizes k [] (omega (arith, low, how_many sizes))) in

@@ -16,13 +16,13 @@ use Rattle.spec_sound.proofs.Contexts.{behind_more, locals_more, lets_more, line
 -- ---- contexts
 
 abbrev pub kernel_over : List FieldSort → List ℕ → Context
-kernel_over F O = record { fields = F; objects = O; args = []; locals = []; bounds = []; kernel = true; old = false; new = false }
+kernel_over F O = record { fields = F; objects = O; args = []; locals = []; bounds = []; outer = 0; kernel = true; old = false; new = false }
 
 abbrev pub state_over : List FieldSort → List ℕ → Context
-state_over F O = record { fields = F; objects = O; args = []; locals = []; bounds = []; kernel = false; old = true; new = false }
+state_over F O = record { fields = F; objects = O; args = []; locals = []; bounds = []; outer = 0; kernel = false; old = true; new = false }
 
 abbrev pub step_over : List FieldSort → List ℕ → List ℕ → Context
-step_over F O widths = record { fields = F; objects = O; args = widths; locals = []; bounds = []; kernel = false; old = true; new = true }
+step_over F O widths = record { fields = F; objects = O; args = widths; locals = []; bounds = []; outer = 0; kernel = false; old = true; new = true }
 
 -- ---- local names
 

@@ -18,15 +18,16 @@ pub record IsBehind (c d : Context) : Type 0 where
   pub objects : d.objects ≡ c.objects
   pub args : d.args ≡ c.args
   pub bounds : d.bounds ≡ c.bounds
+  pub outer : d.outer ≡ c.outer
   pub kernel : d.kernel ≡ c.kernel
   pub old : d.old ≡ c.old
   pub new : d.new ≡ c.new
 
 pub is_behind : (c : Context) (es : List tree.Tree) → IsBehind c (with_locals c es)
-is_behind c [] = record { fields = refl; objects = refl; args = refl; bounds = refl; kernel = refl; old = refl; new = refl }
+is_behind c [] = record { fields = refl; objects = refl; args = refl; bounds = refl; outer = refl; kernel = refl; old = refl; new = refl }
 is_behind c (e ∷ es) =
     let b = is_behind (with_local c e) es in
-    record { fields = b.fields; objects = b.objects; args = b.args; bounds = b.bounds; kernel = b.kernel; old = b.old; new = b.new }
+    record { fields = b.fields; objects = b.objects; args = b.args; bounds = b.bounds; outer = b.outer; kernel = b.kernel; old = b.old; new = b.new }
 
 pub behind_more : (c : Context) (es : List tree.Tree) (e : tree.Tree) → with_locals c (es ++ e ∷ []) ≡ with_local (with_locals c es) e
 behind_more c [] e = refl

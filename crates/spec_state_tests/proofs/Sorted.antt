@@ -2,9 +2,9 @@
 use Rattle.std.proofs.Common.{◌≡◌, ◌<◌, ◌≤◌, [], ◌∷◌, refl, arith, lit<, lit≤}
 use Rattle.std.specs.Prelude.{ℕ, All, Some, slice_get, slice_index_or}
 use Rattle.std.proofs.lemmas.List.Elements.{All-nil, All-cons}
-use Rattle.spec_tree.specs.Plain.{Key, Tree, bound, no_steps, step_and}
-use Rattle.spec_tree.specs.Sorted.{Context, IsWidth, IsSize, IsIndexSort, IsField, IsNamed, IsTransition, IsWellSorted, IsSorted, LiesIn, width_of, sort_of, over_kernel, over_state, over_keys}
-use Rattle.spec_state_tests.specs.Samples.{key, ticks_field, owner_field, kernel_owned, state_owned, take, counter, four_keys, behind}
+use Rattle.spec_tree.specs.Plain.{Key, Tree, constant, bound, no_steps, step_and}
+use Rattle.spec_tree.specs.Sorted.{Context, IsWidth, IsSize, IsIndexSort, IsField, IsNamed, IsTransition, IsCount, IsView, IsWellSorted, IsSorted, AreIndices, LiesIn, width_of, sort_of, over_kernel, over_state, over_step, over_keys}
+use Rattle.spec_state_tests.specs.Samples.{key, ticks_field, owner_field, kernel_owned, state_owned, take, counter, four_keys, behind, one, slot_field, first_rises, references, slot_view, all_view, table}
 
 byte : IsWidth 8
 byte = (lit≤ tt, lit≤ tt)
@@ -80,6 +80,9 @@ counter_sorted = record {
   properties = All-cons (IsNamed (over_state counter)) state_owned [] state_sorted (All-nil (IsNamed (over_state counter)));
   transitions = All-cons (IsTransition counter) take [] take_sorted (All-nil (IsTransition counter));
   handlers = lit≤ tt;
+  steps = All-nil (IsNamed (over_step counter []));
+  counts = All-nil (IsCount counter);
+  views = All-nil (IsView counter);
 }
 
 -- ---- one field alone
@@ -111,4 +114,62 @@ four_keys_sorted =
       properties = All-nil _;
       transitions = All-nil _;
       handlers = lit≤ tt;
+      steps = All-nil _;
+      counts = All-nil _;
+      views = All-nil _;
     }
+
+-- ---- slots and references
+
+slot_sorted : IsField table slot_field
+slot_sorted =
+    let P : Key → Type 0 = λ k. IsIndexSort k.width k.size in
+    record {
+      sort = record { keyed = All-cons P (key 8 2) [] (indexed 2 (lit≤ tt) (lit≤ tt)) (All-nil P); few = lit≤ tt; small = lit≤ tt; wide = byte };
+      sorted = (byte, lit< tt);
+      given = refl;
+    }
+
+rises_sorted : IsNamed (over_step table []) first_rises
+rises_sorted =
+    let at : AreIndices (over_step table []) (key 8 2 ∷ []) (one (constant 8 0)) = (key 8 2, [], refl, (byte, lit< tt), refl, refl) in
+    record { locals = tt; sorted = ((refl, sort_of slot_field, refl, at), (refl, sort_of slot_field, refl, at), refl, tt); truth = refl }
+
+references_sorted : IsCount table references
+references_sorted = record {
+  keyed = (key 8 2, 8, refl, lit< tt);
+  sizes = All-cons IsSize 2 [] (lit≤ tt, lit≤ tt) (All-nil IsSize);
+  small = lit≤ tt;
+  locals = (((byte, 2, refl, lit≤ tt), (byte, lit< tt), refl, tt), tt);
+  sorted = ((refl, sort_of slot_field, refl, (key 8 2, [], refl, (byte, 2, refl, lit≤ tt), refl, refl)), lit< tt, refl, tt);
+  truth = refl;
+  alone = refl;
+}
+
+slot_view_sorted : IsView table slot_view
+slot_view_sorted = record {
+  size = (lit≤ tt, lit≤ tt);
+  locals = tt;
+  shown = All-cons _ _ [] (record { variables = (All-nil IsSize, lit≤ tt); sorted = (refl, sort_of slot_field, refl, (key 8 2, [], refl, (byte, 2, refl, lit≤ tt), refl, refl)) }) (All-nil _);
+}
+
+all_view_sorted : IsView table all_view
+all_view_sorted = record {
+  size = (lit≤ tt, lit≤ tt);
+  locals = tt;
+  shown = All-cons _ _ [] (record { variables = (All-cons IsSize 2 [] (lit≤ tt, lit≤ tt) (All-nil IsSize), lit≤ tt); sorted = (refl, sort_of slot_field, refl, (key 8 2, [], refl, (byte, 2, refl, lit≤ tt), refl, refl)) }) (All-nil _);
+}
+
+pub table_sorted : IsWellSorted table
+table_sorted = record {
+  equation_locals = tt;
+  fields = All-cons (IsField table) slot_field (slot_field ∷ []) slot_sorted (All-cons (IsField table) slot_field [] slot_sorted (All-nil (IsField table)));
+  entries = lit≤ tt;
+  invariants = All-nil _;
+  properties = All-nil _;
+  transitions = All-nil _;
+  handlers = lit≤ tt;
+  steps = All-cons (IsNamed (over_step table [])) first_rises [] rises_sorted (All-nil (IsNamed (over_step table [])));
+  counts = All-cons (IsCount table) references [] references_sorted (All-nil (IsCount table));
+  views = All-cons (IsView table) slot_view (all_view ∷ []) slot_view_sorted (All-cons (IsView table) all_view [] all_view_sorted (All-nil (IsView table)));
+}

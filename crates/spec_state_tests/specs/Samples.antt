@@ -2,7 +2,7 @@
 use Rattle.std.specs.Prelude.{ℕ, true, Some, List, [], ◌∷◌, codes}
 use Rattle.spec_ast.specs.declared.kind.BinKind.TheVariants as op
 use Rattle.spec_tree.specs.declared.expr.StateName.TheVariants.{Old, New}
-use Rattle.spec_tree.specs.Plain.{Key, Tree, constant, argument, bound, local, entry, path, binary, exists, Trees, no_trees, tree_and, no_steps, step_and, Field, Named, let_line, write_line, Transition, Spec}
+use Rattle.spec_tree.specs.Plain.{Key, Tree, constant, argument, bound, local, entry, path, binary, exists, Trees, no_trees, tree_and, no_steps, step_and, Field, Named, let_line, write_line, Transition, CountProperty, Shown, View, Spec}
 
 abbrev pub one : Tree → Trees
 one e = tree_and e no_trees
@@ -46,6 +46,9 @@ counter = record {
   invariants = kernel_owned ∷ [];
   properties = state_owned ∷ [];
   transitions = take ∷ [];
+  steps = [];
+  counts = [];
+  views = [];
   objects = 1 ∷ 4 ∷ [];
 }
 
@@ -58,6 +61,9 @@ alone keys value = record {
   invariants = [];
   properties = [];
   transitions = [];
+  steps = [];
+  counts = [];
+  views = [];
   objects = [];
 }
 
@@ -67,3 +73,44 @@ behind before size k = binary op.Add (binary op.Mul before (constant 8 size)) (b
 -- four keys; an entry is its place
 abbrev pub four_keys : Spec
 four_keys = alone (key 8 2 ∷ key 8 3 ∷ key 8 2 ∷ key 8 5 ∷ []) (behind (behind (behind (bound 0 8) 3 1) 2 2) 5 3)
+
+-- ---- slots of a table of files, and how often each file is referred to
+
+abbrev pub slot_field : Field
+slot_field = record { line = 1; name = codes "f"; keys = key 8 2 ∷ []; width = 8; value = constant 8 0 }
+
+-- the first slot does not fall
+abbrev pub first_rises : Named
+first_rises =
+    record { name = codes "f"; locals = []; value = binary op.Uge (entry New 0 (one (constant 8 0))) (entry Old 0 (one (constant 8 0))) }
+
+-- the references to a file: the slots that hold one more than its number
+abbrev pub references : CountProperty
+references = record {
+  line = 1;
+  name = codes "f";
+  field = 1;
+  bound = 2 ∷ [];
+  locals = binary op.Add (bound 0 8) (constant 8 1) ∷ [];
+  value = binary op.Eq (entry Old 0 (one (bound 1 8))) (local 0);
+}
+
+-- an observer sees a slot of its own, and all references
+abbrev pub slot_view : View
+slot_view = record { line = 1; name = codes "f"; size = 2; locals = []; shown = record { sizes = []; value = entry Old 0 (one (bound 0 8)) } ∷ [] }
+
+abbrev pub all_view : View
+all_view = record { line = 1; name = codes "f"; size = 2; locals = []; shown = record { sizes = 2 ∷ []; value = entry Old 1 (one (bound 1 8)) } ∷ [] }
+
+abbrev pub table : Spec
+table = record {
+  fields = slot_field ∷ slot_field ∷ [];
+  equation_locals = [];
+  invariants = [];
+  properties = [];
+  transitions = [];
+  steps = first_rises ∷ [];
+  counts = references ∷ [];
+  views = slot_view ∷ all_view ∷ [];
+  objects = [];
+}

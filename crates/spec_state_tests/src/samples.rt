@@ -12,19 +12,20 @@ use ir_layout::{KMemory, ObjectBytes};
 use spec_ast::{BinKind, Name};
 use spec_state::{Step, abstract_of, field_of, invariant_holds, property_holds, transition};
 use spec_tree::{
-    Body, Expr, ExprList, Field, FieldList, Line, LineList, Named, NamedList, Path, PathStep,
-    SizeList, Sort, SortList, Spec, StateName, StepList, Transition, TransitionList, Write,
+    Body, CountPropertyList, Expr, ExprList, Field, FieldList, Line, LineList, Named, NamedList,
+    Path, PathStep, SizeList, Sort, SortList, Spec, StateName, StepList, Transition,
+    TransitionList, ViewList, Write,
 };
 use spec_value::{AbstractState, EntryList};
 use std::alloc::{AllocError, Global};
 
-fn binary(alloc: Global, kind: BinKind, a: Expr, b: Expr) -> Result<Expr, AllocError>
+pub fn binary(alloc: Global, kind: BinKind, a: Expr, b: Expr) -> Result<Expr, AllocError>
     ensures { IfOk result (λ e. view_expr e ≡ plain.binary kind (view_expr a) (view_expr b)) }
 {
     Ok(Expr::Bin(kind, Box::new(alloc, a)?, Box::new(alloc, b)?))
 }
 
-fn one(alloc: Global, e: Expr) -> Result<Vec<Expr>, AllocError>
+pub fn one(alloc: Global, e: Expr) -> Result<Vec<Expr>, AllocError>
     ensures { IfOk result (λ es. map view_expr es.items ≡ view_expr e ∷ []) }
 {
     let mut es = Vec::new(alloc);
@@ -32,7 +33,7 @@ fn one(alloc: Global, e: Expr) -> Result<Vec<Expr>, AllocError>
     Ok(es)
 }
 
-fn entry(name: StateName, field: u32, at: Vec<Expr>) -> Expr
+pub fn entry(name: StateName, field: u32, at: Vec<Expr>) -> Expr
     ensures { view_expr result ≡ plain.entry name field (trees_of (map view_expr at.items)) }
 {
     Expr::Entry(name, field, ExprList::of(at))
@@ -72,13 +73,13 @@ fn some_seven(alloc: Global, owner: Expr) -> Result<Expr, AllocError>
     Ok(Expr::Exists(SizeList::of(sizes), Box::new(alloc, body)?))
 }
 
-fn name(alloc: Global) -> Result<Name, AllocError>
+pub fn name(alloc: Global) -> Result<Name, AllocError>
     ensures { IfOk result (λ n. n ≡ codes "f") }
 {
     Name::copy_of(alloc, b"f")
 }
 
-fn field(alloc: Global, keys: Vec<Sort>, value: Expr) -> Result<Field, AllocError>
+pub fn field(alloc: Global, keys: Vec<Sort>, value: Expr) -> Result<Field, AllocError>
     ensures { IfOk result (λ f. view_field f ≡ record { line = 1; name = codes "f"; keys = map view_key keys.items; width = 8; value = view_expr value }) }
 {
     Ok(Field {
@@ -90,7 +91,7 @@ fn field(alloc: Global, keys: Vec<Sort>, value: Expr) -> Result<Field, AllocErro
     })
 }
 
-fn key(size: u32) -> Sort
+pub fn key(size: u32) -> Sort
     ensures { view_key result ≡ sample.key 8 size }
 {
     Sort {
@@ -216,7 +217,7 @@ fn counter_fields(alloc: Global) -> Result<Vec<Field>, AllocError>
     Ok(fields)
 }
 
-fn just(alloc: Global, named: Named) -> Result<NamedList, AllocError>
+pub fn just(alloc: Global, named: Named) -> Result<NamedList, AllocError>
     ensures { IfOk result (λ ns. ns ≡ named ∷ []) }
 {
     let mut list = Vec::new(alloc);
@@ -250,7 +251,7 @@ fn spec_of(
     transitions: TransitionList,
     objects: SizeList,
 ) -> Spec
-    ensures view { view_spec result ≡ record { fields = map view_field fields.items; equation_locals = []; invariants = map view_named invariants; properties = map view_named properties; transitions = map view_transition transitions; objects = objects } }
+    ensures view { view_spec result ≡ record { fields = map view_field fields.items; equation_locals = []; invariants = map view_named invariants; properties = map view_named properties; transitions = map view_transition transitions; steps = []; counts = []; views = []; objects = objects } }
     ensures objects { result.objects ≡ objects }
     ensures invariants { result.invariants ≡ invariants }
     ensures properties { result.properties ≡ properties }
@@ -265,6 +266,9 @@ fn spec_of(
         invariants,
         properties,
         transitions,
+        steps: NamedList::of(Vec::new(alloc)),
+        counts: CountPropertyList::of(Vec::new(alloc)),
+        views: ViewList::of(Vec::new(alloc)),
         objects,
     }
 }

@@ -3,12 +3,12 @@ use Rattle.std.specs.List.{list_all, list_any}
 use Rattle.spec_tree.specs.View.{view_exprs, view_expr_list}
 use Rattle.spec_tree.specs.Sorted.{AreTruths}
 use Rattle.spec_tree.specs.Value.{values, holds}
-use Rattle.spec_number.specs.Evaluation.{context_of, env_of}
+use Rattle.spec_number.specs.Evaluation.{context_of, env_of, outer_of}
 use Rattle.spec_number.proofs.Walks.{list_is, truths_at, number_kept, all_on, all_off, all_end, any_on, any_off, any_end}
 use Rattle.spec_tree.specs.View.{view_key}
 use Rattle.spec_tree.specs.Sorted.{IsSize, IsNest, AreIndices, no_field, product, key_sizes}
 use Rattle.spec_tree.specs.Value.{bit, tuple_at, place_behind, entry_at, state_of}
-use Rattle.spec_number.proofs.Loops.{every_on, every_off, every_end, some_on, some_off, some_end, length_tuple, nest_behind, truth_of, held, deeper_fits, deeper_few, deeper_sorted, place_on, place_off, found_field, field_sizes, added_end}
+use Rattle.spec_number.proofs.Loops.{every_on, every_off, every_end, some_on, some_off, some_end, length_tuple, nest_within, truth_of, held, deeper_fits, deeper_few, deeper_sorted, place_on, place_off, found_field, field_sizes, added_end}
 use Rattle.spec_number.proofs.number.+number.Goals as goal
 
 pub all_hold-each-init : goal.all_hold-each-init
@@ -77,7 +77,7 @@ some_hold-returns-clause-kept t c = c.each.invariant.kept
 
 pub for_all_hold-count-all-requires-clause-few : goal.for_all_hold-count-all-requires-clause-few
 for_all_hold-count-all-requires-clause-few t c =
-    subst IsNest (sym c.as_slice-bounds.ensures) (nest_behind c.args.frame.now.sizes c.args.frame.now.indices c.args.sizes.now c.requires.stands.fits.bounds c.requires.sorted.0.1)
+    subst IsNest (sym c.as_slice-bounds.ensures) (nest_within (outer_of c.args.reading.now.source) c.args.frame.now.sizes c.args.frame.now.indices c.args.sizes.now c.requires.stands.fits.bounds c.requires.sorted.0.1)
 
 pub for_all_hold-returns-then-not-branch-clause-holds : goal.for_all_hold-returns-then-not-branch-clause-holds
 for_all_hold-returns-then-not-branch-clause-holds t c =
@@ -113,7 +113,7 @@ for_all_hold-returns-clause-holds t c =
 
 pub for_some_hold-count-all-requires-clause-few : goal.for_some_hold-count-all-requires-clause-few
 for_some_hold-count-all-requires-clause-few t c =
-    subst IsNest (sym c.as_slice-bounds.ensures) (nest_behind c.args.frame.now.sizes c.args.frame.now.indices c.args.sizes.now c.requires.stands.fits.bounds c.requires.sorted.0.1)
+    subst IsNest (sym c.as_slice-bounds.ensures) (nest_within (outer_of c.args.reading.now.source) c.args.frame.now.sizes c.args.frame.now.indices c.args.sizes.now c.requires.stands.fits.bounds c.requires.sorted.0.1)
 
 pub for_some_hold-returns-then-branch-clause-holds : goal.for_some_hold-returns-then-branch-clause-holds
 for_some_hold-returns-then-branch-clause-holds t c =
