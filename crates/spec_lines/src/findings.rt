@@ -91,11 +91,7 @@ fn counted(
 }
 
 /// What a view's expressions are found to be.
-fn shown(
-    alloc: Global,
-    scope: &Scope<'_>,
-    list: &[RawShown],
-) -> Result<Findings, AllocError>
+fn shown(alloc: Global, scope: &Scope<'_>, list: &[RawShown]) -> Result<Findings, AllocError>
     ensures { IfOk result (λ f. view_findings f ≡ found_among (view_scope scope.now) (map (λ x. under x.names x.value) (map view_shown list.now))) }
 {
     let mut found = nothing();

@@ -83,12 +83,7 @@ pub fn take_alone(
 }
 
 /// What an expression stands for under the parameter of a count or a view.
-fn take_in_body(
-    alloc: Global,
-    scope: &Scope<'_>,
-    kind: Kind,
-    e: &RawExpr,
-) -> Result<Expr, TakeStop>
+fn take_in_body(alloc: Global, scope: &Scope<'_>, kind: Kind, e: &RawExpr) -> Result<Expr, TakeStop>
     ensures { Gives view_expr result (taking.take (view_scope scope.now) (view_scope scope.now).outer kind (view_raw e.now)) }
 {
     let mut bound = scope.bound(alloc)?;

@@ -14,10 +14,10 @@ use crate::findings::found_in;
 use crate::function::{FunctionKind, function_of};
 use crate::here::{Head, Here, has_outer, is_count, is_equivalence, is_handler};
 use crate::made::kind_of;
-use crate::subject::outer_width;
 use crate::sorts::{
     entries_behind, entries_of, field_sort_for, key_for, sort_for, sort_meaning, variable_meaning,
 };
+use crate::subject::outer_width;
 use spec_ast::{Name, RawExpr, RawItem, RawSort};
 use spec_kernel::{KernelNames, ValueType};
 use spec_scope::{Kind, Meaning, NameTable, Scope};

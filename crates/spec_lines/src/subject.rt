@@ -48,10 +48,7 @@ fn begins_outer(item: &RawItem) -> bool
 }
 
 /// What is said of the parameters of all counts and views, in the order of the text.
-pub fn subjects_of<'s>(
-    alloc: Global,
-    lines: &'s [RawLine],
-) -> Result<Vec<Subject<'s>>, AllocError>
+pub fn subjects_of<'s>(alloc: Global, lines: &'s [RawLine]) -> Result<Vec<Subject<'s>>, AllocError>
     ensures { IfOk result (λ v. map view_subject v.items ≡ definition.subjects_of (view_lines lines.now)) }
 {
     let mut subjects = Vec::new(alloc);

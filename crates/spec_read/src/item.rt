@@ -8,10 +8,10 @@ ghost use Rattle.spec_read.specs.Sections.{place_for};
 
 use crate::body::{relation_at, transition_at};
 use crate::count::count_at;
-use crate::view::view_at;
 use crate::field::field_at;
 use crate::section::Section;
 use crate::top::top_at;
+use crate::view::view_at;
 use spec_ast::RawItem;
 use spec_expr::{Bounded, PartStop};
 use spec_lex::Token;

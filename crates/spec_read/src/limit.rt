@@ -10,9 +10,7 @@ ghost use Rattle.spec_expr.specs.Grown.{bounded, lift, join};
 ghost use Rattle.spec_expr.specs.Fronts.{grown};
 ghost use Rattle.spec_read.specs.ItemReading.{same_depth, shown_with};
 
-use spec_ast::{
-    Name, NameList, RawExpr, RawExprs, RawItem, RawShown, RawShownList, RawSort,
-};
+use spec_ast::{Name, NameList, RawExpr, RawExprs, RawItem, RawShown, RawShownList, RawSort};
 use spec_expr::{Bounded, MOST_DEPTH};
 use std::alloc::AllocError;
 

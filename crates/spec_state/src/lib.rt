@@ -16,7 +16,5 @@ mod views;
 pub use counts::count_holds;
 pub use fields::{abstract_of, field_of};
 pub use steps::{Step, transition};
-pub use truths::{
-    invariant_holds, invariants_hold, properties_hold, property_holds, step_holds,
-};
+pub use truths::{invariant_holds, invariants_hold, properties_hold, property_holds, step_holds};
 pub use views::alike;

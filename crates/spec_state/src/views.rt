@@ -36,12 +36,7 @@ fn same_shown(
 }
 
 // A frame with the observer and the local names of a view.
-fn frame_of(
-    alloc: Global,
-    reading: &Reading,
-    v: &View,
-    d: u32,
-) -> Result<Frame, AllocError> {
+fn frame_of(alloc: Global, reading: &Reading, v: &View, d: u32) -> Result<Frame, AllocError> {
     let mut frame = Frame::new(alloc);
     frame.enter(&[v.size], u64::from(v.size), u64::from(d))?;
     put_names(reading, &mut frame, &v.locals)?;

@@ -131,7 +131,11 @@ fn entries(alloc: Global, first: u8, second: u8) -> Result<EntryList, AllocError
 }
 
 /// A state of the table: the slots, and the references.
-pub fn state(alloc: Global, slots: [u8; 2], references: [u8; 2]) -> Result<AbstractState, AllocError>
+pub fn state(
+    alloc: Global,
+    slots: [u8; 2],
+    references: [u8; 2],
+) -> Result<AbstractState, AllocError>
     ensures { IfOk result (λ s. IsState (field_sorts sample.table) s) }
 {
     let mut fields = Vec::new(alloc);

@@ -58,7 +58,11 @@ pub(crate) fn name_at(
         },
         Some(Meaning::Local(place, Some(has), _)) => given_at(kind, has, Expr::Local(place)),
         Some(Meaning::Local(_, None, _)) => Err(TakeStop::Unfit),
-        Some(Meaning::Outer(Some(width))) => given_at(kind, Kind::Number(width), Expr::Bound(0, width)),
+        Some(Meaning::Outer(Some(width))) => given_at(
+            kind,
+            Kind::Number(width),
+            Expr::Bound(0, width),
+        ),
         Some(Meaning::Outer(None)) => Err(TakeStop::Unfit),
         _ => Err(TakeStop::Unfit),
     }
