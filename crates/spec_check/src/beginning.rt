@@ -51,7 +51,7 @@ fn begun_by<'s>(
     subjects: Vec<Subject<'s>>,
 ) -> Begun<'s>
     requires { AreHeads fore }
-    ensures here { view_here result.here ≡ definition.start (definition.scope_of (kernel_in kernel.now) fore.entry.scope.fields) (map view_subject subjects.items) }
+    ensures here { view_here result.here ≡ definition.start (definition.scope_of (kernel_in kernel.now) fore.entry.scope.fields) (map view_subject subjects.entry.items) }
     ensures heads { AreHeadsOf result.here.scope.fields result.heads.items }
 {
     let heads = fore.heads;

@@ -100,7 +100,7 @@ pub fn has_outer(kind: Option<FunctionKind<'_>>) -> bool
 
 /// Before the first line.
 pub fn start<'s>(alloc: Global, scope: Scope<'s>, subjects: Vec<Subject<'s>>) -> Here<'s>
-    ensures { view_here result ≡ definition.start (view_scope scope.entry) (map view_subject subjects.items) }
+    ensures { view_here result ≡ definition.start (view_scope scope.entry) (map view_subject subjects.entry.items) }
 {
     Here {
         scope,
