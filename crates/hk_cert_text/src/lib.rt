@@ -11,6 +11,8 @@ mod refutation;
 mod room;
 mod write;
 
+pub use buffer::Text;
 pub use entry::Entry;
 pub use obligation::{kind_of, subject_of};
+pub use refutation::{add_instance, add_rows};
 pub use write::write_certificate;

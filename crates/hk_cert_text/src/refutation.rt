@@ -57,7 +57,7 @@ fn add_tuple(out: &mut Text, quantifier: u64, indices: &[u64]) -> Result<(), All
 }
 
 /// Adds the line of an instance.
-fn add_instance(out: &mut Text, instance: &Instance) -> Result<(), AllocError>
+pub fn add_instance(out: &mut Text, instance: &Instance) -> Result<(), AllocError>
     ensures { OnOk result (out.new.bytes.items ≡ out.old.bytes.items ++ instance_line instance.now) }
 {
     match instance {
@@ -148,7 +148,7 @@ fn add_row(out: &mut Text, row: &LratRow) -> Result<(), AllocError>
 }
 
 /// Adds rows.
-fn add_rows(out: &mut Text, rows: &[LratRow]) -> Result<(), AllocError>
+pub fn add_rows(out: &mut Text, rows: &[LratRow]) -> Result<(), AllocError>
     ensures { OnOk result (out.new.bytes.items ≡ out.old.bytes.items ++ flat_map row_line rows.now) }
 {
     for row in rows {

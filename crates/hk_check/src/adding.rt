@@ -28,7 +28,7 @@ fn add_named(
 }
 
 /// Adds these instances in their order, up to the first that names nothing, and tells its place.
-pub(crate) fn add_all(
+pub fn add_all(
     alloc: Global,
     question: &mut Question,
     instances: &InstanceList,

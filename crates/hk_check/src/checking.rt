@@ -22,8 +22,8 @@ use ir_kernel::Kernel;
 use spec_tree::Spec;
 use std::alloc::{AllocError, Global};
 
-// The obligations of the handler with this place.
-fn owed_by(alloc: Global, spec: &Spec, h: u32) -> Result<Seq<Obligation>, AllocError>
+/// The obligations of the handler with this place. Where there are 2^32 invariants, fields or properties or more, it is want of memory.
+pub fn owed_by(alloc: Global, spec: &Spec, h: u32) -> Result<Seq<Obligation>, AllocError>
     requires there { h < length spec.now.transitions }
     ensures { (t : plain.Transition) → slice_get (view_spec spec.now).transitions h ≡ Some t → IfOk result (λ owed. owed ≡ obligations_of (view_spec spec.now) t) }
 {

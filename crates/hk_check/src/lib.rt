@@ -11,5 +11,6 @@ mod checking;
 mod counted;
 mod trying;
 
+pub use adding::add_all;
 pub use answers::Checked;
-pub use checking::check;
+pub use checking::{check, owed_by};

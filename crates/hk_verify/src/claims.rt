@@ -38,9 +38,9 @@ use std::alloc::Global;
 
 /// A kernel, a specification that fits it, and a certificate for both.
 #[derive(Drop)]
-struct Claimed {
-    inputs: Inputs,
-    certificate: Certificate,
+pub struct Claimed {
+    pub inputs: Inputs,
+    pub certificate: Certificate,
 }
 
 /// The certificate that a text spells.
@@ -88,7 +88,7 @@ fn read_three(alloc: Global, kernel: &[u8], spec: &[u8], cert: &[u8]) -> Result<
 }
 
 /// Loads and reads the three files.
-fn read_claimed<F: Shelf>(
+pub fn read_claimed<F: Shelf>(
     alloc: Global,
     shelf: &mut F,
     kernel: &str,

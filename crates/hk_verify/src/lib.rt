@@ -20,5 +20,8 @@ mod verdicts;
 mod verify;
 mod words;
 
-pub use refusal::status;
+pub use claims::{Claimed, read_claimed};
+pub use inputs::{Inputs, read_inputs};
+pub use refusal::{refuse, refuse_behind, status};
 pub use top::run_words;
+pub use verify::cut;
