@@ -18,7 +18,7 @@ use Rattle.hk_lrat.specs.LogText.{log_of}
 use Rattle.hk_lrat.specs.Refutes.{Refutes}
 use Rattle.hk_inst.specs.declared.instance.Instance.{Instance}
 use Rattle.hk_inst.specs.Exactness.{Exact}
-use Rattle.hk_inst.specs.Questions.{Asked}
+use Rattle.hk_inst.specs.Questions.{Asked, IsQuestion}
 use Rattle.hk_proof.specs.declared.Proof.{Proof}
 use Rattle.hk_proof.specs.declared.Proof.TheVariants as proof
 use Rattle.hk_case.specs.declared.Obligation.{Obligation}
@@ -39,22 +39,27 @@ use Rattle.hk_export.specs.declared.exporting.ExportStop.{ExportStop}
 use Rattle.hk_export.specs.declared.exporting.ExportStop.TheVariants as stop
 use Rattle.hk_export.specs.declared.exporting.Seen.{Seen}
 use Rattle.hk_export.specs.Comments.{heading_text, instance_comment}
+use Rattle.hk_export.specs.Inputs.{inputs_text}
 use Rattle.hk_export.specs.Lines.{outcome_line}
 use Rattle.hk_export.specs.Names.{file_text, pair_text}
 
 -- ---- the two texts of a proof
 
 -- the clause file: comments, and the list of the clauses
-abbrev pub cnf_text : List ℕ → List ℕ → Spec → Transition → Obligation → List Instance → Clauses → List ℕ
-cnf_text kernel spec s t o instances list = heading_text kernel spec s t o ++ (flat_map instance_comment instances ++ list_text list)
+abbrev pub cnf_text : List ℕ → List ℕ → Spec → Transition → Obligation → List Instance → List ℕ → Clauses → List ℕ
+cnf_text kernel spec s t o instances inputs list = heading_text kernel spec s t o ++ (flat_map instance_comment instances ++ (inputs ++ list_text list))
 
 -- the log: its rows
 abbrev pub lrat_text : List LratRow → List ℕ
 lrat_text log = flat_map row_line log
 
--- they are read as the clauses and the log, and the log refutes the clauses
+-- they are read as the clauses and the log, and the log refutes the clauses; the comments of inputs are those of a question whose clauses
+-- these are
 pub record IsPair (kernel spec : List ℕ) (s : Spec) (t : Transition) (o : Obligation) (instances : List Instance) (list : Clauses) (log : List LratRow) (cnf lrat : List ℕ) : Type 0 where
-  pub cnf_is : cnf ≡ cnf_text kernel spec s t o instances list
+  pub question : Asked
+  pub is_question : IsQuestion question
+  pub list_is : list ≡ record { vars = question.circuit.vars; clauses = question.circuit.clauses }
+  pub cnf_is : cnf ≡ cnf_text kernel spec s t o instances (inputs_text (length t.widths) question.nodes question.table.words) list
   pub lrat_is : lrat ≡ lrat_text log
   pub cnf_reads : dimacs_of cnf ≡ Ok list
   pub lrat_reads : log_of lrat ≡ Ok log

@@ -1,5 +1,8 @@
+pub mod Asking
 pub mod Comments
+pub mod Entries
 pub mod Exports
+pub mod Inputs
 pub mod Lines
 pub mod Means
 pub mod Names

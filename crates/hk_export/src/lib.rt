@@ -5,8 +5,10 @@
 //! was found (`specs/Exports.antt`). The folder is a prefix of names: it is not made here.
 #![tactic(auto)]
 
+mod asking;
 mod comments;
 mod exporting;
+mod inputs;
 pub mod laws;
 mod lines;
 mod names;
@@ -14,6 +16,7 @@ mod outcome;
 mod taking;
 mod top;
 
+pub use asking::{ask, question_words};
 pub use comments::Sources;
 pub use exporting::{ExportStop, Seen, export_claims};
 pub use names::{obligation_name, pair_name};

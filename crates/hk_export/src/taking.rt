@@ -11,9 +11,12 @@ ghost use Rattle.hk_case.specs.Obligations.{IsObligation};
 ghost use Rattle.hk_oblig.specs.Asking.{IsPrepared};
 ghost use Rattle.hk_proof.specs.declared.Proof.TheVariants.{AllCases};
 ghost use Rattle.hk_decide.specs.Right.{IsSmall};
+ghost use Rattle.hk_inst.specs.Questions.{Asked, IsQuestion};
+ghost use Rattle.hk_export.specs.Inputs.{inputs_text};
 ghost use Rattle.hk_export.specs.Exports.{IsOutcome, IsTakenFrom, IsTakenOver, cnf_text, lrat_text};
 
 use crate::comments::{Sources, add_heading, add_instances};
+use crate::inputs::inputs_of;
 use crate::outcome::Outcome;
 use hk_case::Obligation;
 use hk_cert_text::{Text, add_rows};
@@ -34,14 +37,16 @@ fn cnf_text(
     handler: &Handler,
     o: Obligation,
     instances: &InstanceList,
+    inputs: &[u8],
     clauses: &ClauseList,
 ) -> Result<Vec<u8>, AllocError>
-    ensures { IfOk result (λ text. text.items ≡ cnf_text sources.now.kernel.now sources.now.spec.now (view_spec handler.now.spec.now) (view_transition handler.now.transition.now) o instances.now clauses.now) }
+    ensures { IfOk result (λ text. text.items ≡ cnf_text sources.now.kernel.now sources.now.spec.now (view_spec handler.now.spec.now) (view_transition handler.now.transition.now) o instances.now inputs.now clauses.now) }
 {
     let list = write_dimacs(alloc, clauses)?;
-    let mut text = Text::with_room(alloc, list.len())?;
+    let mut text = Text::with_room(alloc, list.len().saturating_add(inputs.len()))?;
     add_heading(alloc, &mut text, sources, handler, o)?;
     add_instances(&mut text, instances.as_slice())?;
+    text.add(inputs)?;
     text.add(list.as_slice())?;
     Ok(text.into_bytes())
 }
@@ -62,14 +67,17 @@ fn judge(
     handler: &Handler,
     o: Obligation,
     instances: &InstanceList,
+    inputs: &[u8],
     clauses: &ClauseList,
     log: &LratLog,
 ) -> Result<Outcome, AllocError>
-    ensures { IfOk result (IsTakenOver sources.now.kernel.now sources.now.spec.now (view_spec handler.now.spec.now) (view_transition handler.now.transition.now) o instances.now clauses.now log.now) }
+    ensures { (question : Asked) → IsQuestion question → clauses.now ≡ record { vars = question.circuit.vars; clauses = question.circuit.clauses } →
+        inputs.now ≡ inputs_text (length (view_transition handler.now.transition.now).widths) question.nodes question.table.words →
+        IfOk result (IsTakenOver sources.now.kernel.now sources.now.spec.now (view_spec handler.now.spec.now) (view_transition handler.now.transition.now) o instances.now clauses.now log.now) }
 {
     match refutes(alloc, clauses, log) {
         Ok(()) => Ok(Outcome::Pair {
-            cnf: cnf_text(alloc, sources, handler, o, instances, clauses)?,
+            cnf: cnf_text(alloc, sources, handler, o, instances, inputs, clauses)?,
             lrat: lrat_text(alloc, log)?,
         }),
         Err(RefuteStop::Row { row, reason }) => Ok(Outcome::Refused { row, reason }),
@@ -92,11 +100,13 @@ fn take_log(
 {
     let mut question = question;
     let added = add_all(alloc, &mut question, instances);
+    let parameters = handler.transition.widths.as_slice().len();
+    let inputs = inputs_of(alloc, parameters, question.terms(), question.words());
     let (kept, clauses) = question.into_parts();
     drop(kept);
     match added? {
         Some(_) => Ok(Outcome::NoSuch),
-        None => judge(alloc, sources, handler, o, instances, &clauses, log),
+        None => judge(alloc, sources, handler, o, instances, inputs?.as_slice(), &clauses, log),
     }
 }
 

@@ -1,8 +1,9 @@
 //! Questions.
 
-ghost use Rattle.std.specs.Prelude.{◌≡◌, ◌<◌, ◌≤◌, ◌++◌, ◌∷◌, [], false, true, nat_eq, length, All, IfOk, IfErr, OnOk, OnErr};
+ghost use Rattle.std.specs.Prelude.{◌≡◌, ℕ, ◌<◌, ◌≤◌, ◌++◌, ◌∷◌, [], false, true, nat_eq, length, All, IfOk, IfErr, OnOk, OnErr};
 ghost use Rattle.hk_term.specs.Meaning.{Reading, reading_of, value};
 ghost use Rattle.hk_cnf.specs.Clauses.{clauses_value};
+ghost use Rattle.hk_blast.specs.Blasted.{HasWord};
 ghost use Rattle.hk_inst.specs.declared.instance.Instance.{Instance};
 ghost use Rattle.hk_inst.specs.Inputs.{number_in, completed};
 ghost use Rattle.hk_inst.specs.Truths.{IsInstance, IsTrue, is_among};
@@ -20,6 +21,7 @@ use crate::start::{holds, made};
 use crate::state::State;
 use crate::subject::AddFault;
 use crate::violation::{violated, violated_in};
+use hk_blast::BitTable;
 use hk_cnf::{Assignment, ClauseList};
 use hk_term::{TermId, Terms, Valuation};
 use std::alloc::{AllocError, Global};
@@ -66,6 +68,30 @@ impl Question {
         ensures exact { Exact (λ v. nat_eq (value self.now.nodes self.now.goal v) 1) self.now.instances result.now }
     {
         self.state.gates.clauses()
+    }
+
+    /// The terms: those of the goal and of what the instances speak of.
+    pub fn terms(&self) -> &Terms
+        ensures { result.now ≡ self.now.nodes }
+    {
+        &self.state.terms
+    }
+
+    /// The goal, one of the terms.
+    pub fn goal(&self) -> TermId
+        ensures same { result ≡ self.now.goal }
+        ensures there { self.now.goal < length self.now.nodes }
+    {
+        self.state.goal
+    }
+
+    /// The words of the terms that are in the clauses: their bits as literals.
+    pub fn words(&self) -> &BitTable
+        ensures same { result.now ≡ self.now.table.words }
+        ensures asked { IsQuestion self.now }
+        ensures there { (k : ℕ) → HasWord self.now.table.words k → k < length self.now.nodes }
+    {
+        &self.state.bits
     }
 
     /// The instances that were added, in their order.
