@@ -20,7 +20,8 @@ fn add_id(ids: &mut Vec<u32>, id: u32) -> Result<(), AllocError>
     if is_known(ids.as_slice(), id) {
         return Ok(());
     }
-    ids.push(id)
+    ids.push(id)?;
+    Ok(())
 }
 
 /// Puts the ids of bound variables behind the others.

@@ -15,7 +15,7 @@ use std::alloc::{AllocError, Global};
 /// The names of the first terms.
 fn naming_of<'a>(alloc: Global, terms: &'a Terms, count: u64) -> Result<Naming<'a>, AllocError>
     requires { count ≤ length terms.now }
-    ensures { IfOk result (λ naming. named naming ≡ naming_of terms.now (take count terms.now)) }
+    ensures named { IfOk result (λ naming. named naming ≡ naming_of terms.now (take count terms.now)) }
     ensures terms { IfOk result (λ naming. naming.terms.now ≡ terms.now) }
 {
     let bound = bound_of(alloc, terms, count)?;
