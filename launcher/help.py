@@ -53,6 +53,33 @@ Prints for each rejection whether its case violates its obligation: confirmed or
 Statuses: 0 all are confirmed; 1 one is not; 3 a text is refused; 4 words; 5 a file could not be read; 7 memory.
 """,
     ),
+    "export": (
+        "save the proofs in a certificate for other checkers",
+        """\
+hkv export KERNEL SPEC CERT FOLDER
+
+Checks each proof of each acceptance again, without the solver, and saves what another checker reads: HANDLER.OBLIGATION.cnf has the clauses
+in DIMACS CNF, with comments that say what each input is, and HANDLER.OBLIGATION.lrat the log in LRAT. Prints a line for each proof, which
+the file INDEX of the folder has too: exported with the name of the two files; cases where all cases were tried and there are no clauses;
+refused with the first row that does not hold, violated, or unnamed for an instance that names nothing, of which nothing is saved; not
+claimed for a handler without an acceptance. The folder is made where it is not there, and files of these names are written over.
+
+Statuses: 0 all are exported; 1 a proof is refused; 2 a handler is not claimed; 3 a text is refused; 4 words; 5 a file could not be read;
+6 the output or a file could not be written; 7 memory.
+""",
+    ),
+    "question": (
+        "print the question of an obligation for other solvers",
+        """\
+hkv question KERNEL SPEC HANDLER OBLIGATION
+
+Prints the question whether some state and arguments violate an obligation of a handler, as a script in SMT-LIB 2 (bit-vectors, arrays and
+quantifiers): sat says that some do, unsat that none do. OBLIGATION is undefined, invariant.NAME, state.FIELD, result or property.NAME.
+
+Statuses: 0; 3 a text is refused; 4 words, or no such handler or obligation; 5 a file could not be read; 6 the output could not be written;
+7 memory.
+""",
+    ),
     "lrat": (
         "check a refutation of a clause file",
         """\

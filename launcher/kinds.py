@@ -73,7 +73,7 @@ def spec_kind(front):
 def tell(words):
     """A line for each file of a refused call that is something else."""
     both = (kernel_kind, spec_kind)
-    looks = {"verify": both, "check": both, "replay": both, "handlers": both, "premises": both, "run": (kernel_kind,)}
+    looks = {"verify": both, "check": both, "replay": both, "export": both, "question": both, "handlers": both, "premises": both, "run": (kernel_kind,)}
     for look, name in zip(looks.get(words[0], ()), words[1:]):
         try:
             with open(name, "rb") as file:

@@ -22,7 +22,7 @@ MOST_JOBS = 1_000
 REFUSED = 3
 USAGE = 4
 REPORTED = (0, 1, 2, 7)
-PROGRAMS_OWN = (*OPTIONS, "lrat", "run", "bench")
+PROGRAMS_OWN = (*OPTIONS, "export", "question", "lrat", "run", "bench")
 
 
 class Misused(Exception):
@@ -141,7 +141,7 @@ def has_form(words):
             if options[-2:-1] == ["--cert"]:
                 del options[-2:]
             return not options or (options[:-1] == ["--conflicts"] and is_number(options[-1], 1, MOST_CONFLICTS))
-        case ["check" | "replay", _, _, _] | ["lrat", _, _]:
+        case ["check" | "replay", _, _, _] | ["export" | "question", _, _, _, _] | ["lrat", _, _]:
             return True
         case ["run", _, _, *arguments]:
             return all(is_number(word, 0, 2**64 - 1) for word in arguments)
@@ -154,6 +154,10 @@ def answer(words):
     """The program's answer to words of its own, with a hint where they have no form; the exit status."""
     if not has_form(words):
         return misused(words, "")
+    if words[0] == "export":
+        from launcher import folders
+
+        folders.make(words)
     from launcher import refusals
 
     status = refusals.run(words)

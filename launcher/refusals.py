@@ -12,7 +12,7 @@ import sys
 from launcher import program
 
 KEEP = 1 << 16                      # bytes of output that are looked at
-DECIDED = {'verify': (0, 1, 2), 'replay': (0, 1), 'check': (0, 2), 'lrat': (0,), 'run': (0,), 'bench': (0,)}
+DECIDED = {'verify': (0, 1, 2), 'replay': (0, 1), 'check': (0, 2), 'export': (0, 2), 'question': (0,), 'lrat': (0,), 'run': (0,), 'bench': (0,)}
 WRITE_FAULT = 6
 
 
