@@ -14,6 +14,6 @@ pub fn safe_names_are_one_to_one()
 /// The first dot of a pair's name ends the handler's, so handlers of two names have no file in common. The call does nothing: its
 /// contract is the law.
 pub fn pairs_name_their_handler()
-    ensures { (s : Spec) (t u : Transition) (o p : Obligation) → pair_text s t o ≡ pair_text s u p → safe t.name ≡ safe u.name }
-    ensures { (s : Spec) (t u : Transition) (o p : Obligation) → pair_text s t o ≡ pair_text s u p → obligation_text s o ≡ obligation_text s p }
+    ensures handler { (s : Spec) (t u : Transition) (o p : Obligation) → pair_text s t o ≡ pair_text s u p → safe t.name ≡ safe u.name }
+    ensures obligation { (s : Spec) (t u : Transition) (o p : Obligation) → pair_text s t o ≡ pair_text s u p → obligation_text s o ≡ obligation_text s p }
 {}
