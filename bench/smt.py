@@ -43,8 +43,7 @@ def drawn(seed):
     """A kernel of one handler over a number and a table, and its specification, which often says a little else."""
     draw = random.Random(seed)
     width, size = draw.choice((8, 16, 32)), draw.choice((2, 3, 4, 5, 8))
-    steps, value, text = [], ("%x", "x"), []
-    text.append(f"  %v = load i{width}, ptr @count")
+    text = [f"  %v = load i{width}, ptr @count"]
     values = [("%x", "x"), ("%v", "state.count")]
     table = draw.random() < 0.7
     if table:
@@ -113,8 +112,7 @@ def entries_of(kernel, spec, name, script):
             for key in spec.fields[array].keys:
                 count *= key.size
         else:
-            over = next(it for it in kernel.globals.values() if it.place == array) if isinstance(kernel.globals, dict) else kernel.globals[array]
-            count = kernel.size_of(over.type) * 8 // width
+            count = kernel.size_of(kernel.globals[array].type) * 8 // width
         found[array] = (count, width)
     return found
 
@@ -130,10 +128,8 @@ def tuple_at(place, keys):
 
 def block(kernel, spec, handler, name, numbers, arrays, widths):
     """The lines of a state block."""
-    params = len(spec.transition(handler).params) - 1
-    function = kernel.functions[handler] if isinstance(kernel.functions, dict) else next(it for it in kernel.functions if it.name == handler)
-    bits = [it[0].number if isinstance(it, tuple) else it.type.number for it in function.params]
-    lines = [f"  arg {k} = {numbers.get(k, 0) % (1 << bits[k])}" for k in range(params)]
+    bits = [over.number for over, _ in kernel.functions[handler].params]
+    lines = [f"  arg {k} = {numbers.get(k, 0) % (1 << width)}" for k, width in enumerate(bits)]
     if name.startswith("property."):
         for k, field in enumerate(spec.fields):
             for place in range(widths.get(k, (0, 0))[0]):
