@@ -14,7 +14,7 @@ ghost use Rattle.hk_export.specs.Names.{file_text};
 ghost use Rattle.hk_proof.specs.declared.Proof as definition;
 ghost use Rattle.hk_claims.specs.Fitting.{AllFit, Fits};
 ghost use Rattle.hk_check.specs.Told.{AreFew};
-ghost use Rattle.hk_export.specs.declared.exporting.ExportStop.TheVariants.{Memory as StopMemory, Write as StopWrite};
+ghost use Rattle.hk_export.specs.declared.exporting.ExportStop.TheVariants.{Memory as StopMemory};
 ghost use Rattle.hk_export.specs.Exports.{AreExported, AreHandled, AreSaved, AreFound, BeginsWith, IsPutStop, IsSaveStop, IsStopped, OfClaims, OfHandler, OutsideView, files_of, is_refused};
 
 use crate::comments::Sources;
@@ -26,7 +26,7 @@ use hk_case::Obligation;
 use hk_cert_text::Entry;
 use hk_check::owed_by;
 use hk_decide::Handler;
-use hk_io::{SaveFault, Shelf, Sink, SinkFault};
+use hk_io::{SaveFault, Shelf, Sink};
 use hk_oblig::prepare;
 use hk_proof::{Proof, ProofList};
 use ir_kernel::Kernel;
@@ -47,14 +47,6 @@ impl From<AllocError> for ExportStop {
 
     fn from(_error: AllocError) -> ExportStop {
         ExportStop::Memory
-    }
-}
-
-impl From<SinkFault> for ExportStop {
-    ghost from_gives = { λ _ stop. stop ≡ StopWrite };
-
-    fn from(_fault: SinkFault) -> ExportStop {
-        ExportStop::Write
     }
 }
 

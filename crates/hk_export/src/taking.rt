@@ -106,7 +106,10 @@ fn take_log(
     drop(kept);
     match added? {
         Some(_) => Ok(Outcome::NoSuch),
-        None => judge(alloc, sources, handler, o, instances, inputs?.as_slice(), &clauses, log),
+        None => {
+            let inputs = inputs?;
+            judge(alloc, sources, handler, o, instances, inputs.as_slice(), &clauses, log)
+        }
     }
 }
 
