@@ -64,9 +64,10 @@ def changed_hint(rows_):
 
 def renumbered(rows_):
     """The log whose first addition has the id of the last clause of the list."""
-    words = rows_[0].split()
+    at = next(k for k, row in enumerate(rows_) if row.split()[1] != "d")
+    words = rows_[at].split()
     words[0] = str(int(words[0]) - 1)
-    return [" ".join(words)] + rows_[1:]
+    return rows_[:at] + [" ".join(words)] + rows_[at + 1 :]
 
 
 class Tally:

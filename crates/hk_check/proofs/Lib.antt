@@ -1,3 +1,3 @@
-mod Once
-mod Judgements
-mod Turns
+pub mod Once
+pub mod Judgements
+pub mod Turns

@@ -44,10 +44,7 @@ pub(crate) fn add_heading(
         Part::Text(b"c handler "),
         Part::Name(handler.transition.name.as_bytes()),
     ])?;
-    text.add_line(&[
-        Part::Text(b"c obligation "),
-        Part::Text(name.as_bytes()),
-    ])
+    text.add_line(&[Part::Text(b"c obligation "), Part::Text(name.as_bytes())])
 }
 
 /// Adds the comment of an instance: its line of a certificate.

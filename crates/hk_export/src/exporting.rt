@@ -117,7 +117,14 @@ fn save_outcome<F: Shelf>(
         Outcome::Pair { cnf, lrat } => {
             let name = pair_name(alloc, handler.spec, handler.transition, obligation)?;
             save_file(alloc, folder, name.as_str(), ".cnf", cnf.as_slice(), shelf)?;
-            save_file(alloc, folder, name.as_str(), ".lrat", lrat.as_slice(), shelf)
+            save_file(
+                alloc,
+                folder,
+                name.as_str(),
+                ".lrat",
+                lrat.as_slice(),
+                shelf,
+            )
         }
         Outcome::AllCases => Ok(()),
         Outcome::Refused { .. } => Ok(()),
@@ -278,7 +285,15 @@ fn export_all<F: Shelf, O: Sink>(
             place: place as u32,
             transition: &transitions[place],
         };
-        let seen = export_next(alloc, sources, &handler, &entries[place], target, shelf, out)?;
+        let seen = export_next(
+            alloc,
+            sources,
+            &handler,
+            &entries[place],
+            target,
+            shelf,
+            out,
+        )?;
         all.refused |= seen.refused;
         all.unclaimed |= seen.unclaimed;
     }
@@ -313,7 +328,16 @@ pub fn export_claims<'x, F: Shelf, O: Sink>(
         folder,
         index: Vec::new(alloc),
     };
-    let seen = export_all(alloc, sources, kernel, spec, entries, &mut target, shelf, out)?;
+    let seen = export_all(
+        alloc,
+        sources,
+        kernel,
+        spec,
+        entries,
+        &mut target,
+        shelf,
+        out,
+    )?;
     let file = file_name(alloc, folder, "INDEX", "")?;
     match shelf.save(alloc, file.as_str(), target.index.as_slice()) {
         Ok(()) => Ok(seen),

@@ -65,11 +65,7 @@ fn refused(
 }
 
 /// The line of a proof whose two texts are saved: with the name of the two files.
-fn exported(
-    alloc: Global,
-    handler: &Handler,
-    obligation: Obligation,
-) -> Result<Vec<u8>, AllocError>
+fn exported(alloc: Global, handler: &Handler, obligation: Obligation) -> Result<Vec<u8>, AllocError>
     ensures { IfOk result (λ text. text.items ≡ exported_line (view_spec handler.now.spec.now) (view_transition handler.now.transition.now) obligation) }
 {
     let name = pair_name(alloc, handler.spec, handler.transition, obligation)?;

@@ -63,11 +63,7 @@ fn kind_word(obligation: Obligation) -> &'static str
 }
 
 /// Adds the name of an obligation.
-fn add_obligation(
-    text: &mut String,
-    spec: &Spec,
-    obligation: Obligation,
-) -> Result<(), AllocError>
+fn add_obligation(text: &mut String, spec: &Spec, obligation: Obligation) -> Result<(), AllocError>
     ensures { OnOk result (string_bytes text.new ≡ string_bytes text.old ++ obligation_text (view_spec spec.now) obligation) }
 {
     text.push_str(kind_word(obligation))?;

@@ -108,7 +108,16 @@ fn take_log(
         Some(_) => Ok(Outcome::NoSuch),
         None => {
             let inputs = inputs?;
-            judge(alloc, sources, handler, o, instances, inputs.as_slice(), &clauses, log)
+            judge(
+                alloc,
+                sources,
+                handler,
+                o,
+                instances,
+                inputs.as_slice(),
+                &clauses,
+                log,
+            )
         }
     }
 }
@@ -159,8 +168,13 @@ pub(crate) fn take(
     cases_are_of_readings();
     match proof {
         Proof::Refuted { instances, log } => {
-            let question =
-                prepared.question(alloc, handler.kernel, handler.spec, handler.place, o)?;
+            let question = prepared.question(
+                alloc,
+                handler.kernel,
+                handler.spec,
+                handler.place,
+                o,
+            )?;
             take_log(alloc, sources, handler, o, question, instances, log)
         }
         Proof::AllCases => take_all(alloc, sources, handler, o),

@@ -9,14 +9,19 @@ use hk_main::answer_to;
 use std::alloc::{AllocError, Global};
 use std::io;
 
-const KERNEL: &[u8] = b"@ticks = global i8 0\ndefine void @tick() {\n  %v = load i8, ptr @ticks\n  %n = add i8 %v, 1\n  store i8 %n, ptr @ticks\n  ret void\n}\n";
-const SPEC: &[u8] = b"class State:\n    ticks = Bits(8)\n\ndef equiv(kernel, state):\n    return state.ticks == kernel.ticks\n\ndef tick(state):\n    new = state.copy()\n    new.ticks = state.ticks + 1\n    return True, new\n";
+const KERNEL: &[u8] =
+    b"@ticks = global i8 0\ndefine void @tick() {\n  %v = load i8, ptr @ticks\n  %n = add i8 %v, 1\n  store i8 %n, ptr @ticks\n  ret void\n}\n";
+
+const SPEC: &[u8] =
+    b"class State:\n    ticks = Bits(8)\n\ndef equiv(kernel, state):\n    return state.ticks == kernel.ticks\n\ndef tick(state):\n    new = state.copy()\n    new.ticks = state.ticks + 1\n    return True, new\n";
 
 /// A certificate whose second log has a hint that names no clause.
-const REFUSED: &[u8] = b"hkv certificate 1\naccept tick\nprove undefined\nlog 1\n3 0 1 2 0\nprove state ticks\nlog 1\n3 0 1 9 0\nend\n";
+const REFUSED: &[u8] =
+    b"hkv certificate 1\naccept tick\nprove undefined\nlog 1\n3 0 1 2 0\nprove state ticks\nlog 1\n3 0 1 9 0\nend\n";
 
 /// A certificate in which all cases were tried.
-const CASES: &[u8] = b"hkv certificate 1\naccept tick\nprove undefined\ncases\nprove state ticks\ncases\nend\n";
+const CASES: &[u8] =
+    b"hkv certificate 1\naccept tick\nprove undefined\ncases\nprove state ticks\ncases\nend\n";
 
 /// A certificate of no acceptance.
 const UNCLAIMED: &[u8] = b"hkv certificate 1\nunknown tick undefined\nend\n";
@@ -37,7 +42,10 @@ fn add(
     name: &str,
     bytes: &[u8],
 ) -> Result<(), AllocError> {
-    files.push((String::from_str(alloc, name)?, Vec::from_slice(alloc, bytes)?))?;
+    files.push((
+        String::from_str(alloc, name)?,
+        Vec::from_slice(alloc, bytes)?,
+    ))?;
     Ok(())
 }
 
@@ -50,10 +58,7 @@ fn shelf_of(alloc: Global, failing: &[u64]) -> Result<MemShelf, AllocError> {
     add(alloc, &mut files, "cases", CASES)?;
     add(alloc, &mut files, "unclaimed", UNCLAIMED)?;
     let calls = Vec::from_slice(alloc, failing)?;
-    Ok(MemShelf::new(
-        FileList::from_vec(files),
-        CallList::from_vec(calls),
-    ))
+    Ok(MemShelf::new(FileList::from_vec(files), CallList::from_vec(calls)))
 }
 
 /// Answers a line, and shows it before the answer and the status behind it.
@@ -65,7 +70,12 @@ fn show(rt: &HostRuntime, line: &str, shelf: &mut MemShelf, out: &mut StdSink) -
 }
 
 /// Answers lines, one after the other, over a shelf of their own.
-fn show_all(rt: &HostRuntime, failing: &[u64], lines: &[&str], out: &mut StdSink) -> io::Result<()> {
+fn show_all(
+    rt: &HostRuntime,
+    failing: &[u64],
+    lines: &[&str],
+    out: &mut StdSink,
+) -> io::Result<()> {
     let mut shelf = shelf_of(rt.alloc(), failing)?;
     for line in lines {
         show(rt, line, &mut shelf, out)?;

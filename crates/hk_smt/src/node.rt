@@ -91,13 +91,16 @@ fn add_variable(text: &mut Vec<u8>, width: u32, id: u32) -> Result<(), AllocErro
     requires { 1 ≤ width }
     ensures { OnOk result (text.new.items ≡ text.old.items ++ low_text width (codes "x" ++ decimal id)) }
 {
-    add(text, &[
-        Piece::Text(b"((_ extract "),
-        Piece::Number(width as u64 - 1),
-        Piece::Text(b" 0) x"),
-        Piece::Number(id as u64),
-        Piece::Text(b")"),
-    ])
+    add(
+        text,
+        &[
+            Piece::Text(b"((_ extract "),
+            Piece::Number(width as u64 - 1),
+            Piece::Text(b" 0) x"),
+            Piece::Number(id as u64),
+            Piece::Text(b")"),
+        ],
+    )
 }
 
 /// Adds a term with zeros or copies of its sign above, so many.
@@ -110,13 +113,16 @@ fn add_extended(
 ) -> Result<(), AllocError>
     ensures { OnOk result (text.new.items ≡ text.old.items ++ extended_text operation.now more (term_text (named naming.now) a)) }
 {
-    add(text, &[
-        Piece::Text(b"((_ "),
-        Piece::Text(operation),
-        Piece::Text(b" "),
-        Piece::Number(more as u64),
-        Piece::Text(b") "),
-    ])?;
+    add(
+        text,
+        &[
+            Piece::Text(b"((_ "),
+            Piece::Text(operation),
+            Piece::Text(b" "),
+            Piece::Number(more as u64),
+            Piece::Text(b") "),
+        ],
+    )?;
     add_term(text, naming, a)?;
     add(text, &[Piece::Text(b")")])
 }
@@ -134,13 +140,16 @@ fn add_select(
     ensures { OnOk result (text.new.items ≡ text.old.items ++ node_text (named naming.now) (Node.Select array width index)) }
 {
     let more = 64 - naming.terms.width(index);
-    add(text, &[
-        Piece::Text(b"((_ extract "),
-        Piece::Number(width as u64 - 1),
-        Piece::Text(b" 0) (select a"),
-        Piece::Number(array as u64),
-        Piece::Text(b" "),
-    ])?;
+    add(
+        text,
+        &[
+            Piece::Text(b"((_ extract "),
+            Piece::Number(width as u64 - 1),
+            Piece::Text(b" 0) (select a"),
+            Piece::Number(array as u64),
+            Piece::Text(b" "),
+        ],
+    )?;
     add_extended(text, b"zero_extend", more, naming, index)?;
     add(text, &[Piece::Text(b"))")])
 }
@@ -154,11 +163,14 @@ fn add_unary(
 ) -> Result<(), AllocError>
     ensures { OnOk result (text.new.items ≡ text.old.items ++ node_text (named naming.now) (Node.Unary kind a)) }
 {
-    add(text, &[
-        Piece::Text(b"("),
-        Piece::Text(unary_name(kind)),
-        Piece::Text(b" "),
-    ])?;
+    add(
+        text,
+        &[
+            Piece::Text(b"("),
+            Piece::Text(unary_name(kind)),
+            Piece::Text(b" "),
+        ],
+    )?;
     add_term(text, naming, a)?;
     add(text, &[Piece::Text(b")")])
 }
@@ -173,11 +185,14 @@ fn add_applied(
 ) -> Result<(), AllocError>
     ensures { OnOk result (text.new.items ≡ text.old.items ++ applied_text (binary_name kind) (term_text (named naming.now) a) (term_text (named naming.now) b)) }
 {
-    add(text, &[
-        Piece::Text(b"("),
-        Piece::Text(binary_name(kind)),
-        Piece::Text(b" "),
-    ])?;
+    add(
+        text,
+        &[
+            Piece::Text(b"("),
+            Piece::Text(binary_name(kind)),
+            Piece::Text(b" "),
+        ],
+    )?;
     add_term(text, naming, a)?;
     add(text, &[Piece::Text(b" ")])?;
     add_term(text, naming, b)?;
@@ -233,13 +248,16 @@ fn add_extract(
     requires within { low + to ≤ 64 }
     ensures { OnOk result (text.new.items ≡ text.old.items ++ resize_text (TermResize.Extract low) (width naming.now.terms.now a) to (term_text (named naming.now) a)) }
 {
-    add(text, &[
-        Piece::Text(b"((_ extract "),
-        Piece::Number(low as u64 + to as u64 - 1),
-        Piece::Text(b" "),
-        Piece::Number(low as u64),
-        Piece::Text(b") "),
-    ])?;
+    add(
+        text,
+        &[
+            Piece::Text(b"((_ extract "),
+            Piece::Number(low as u64 + to as u64 - 1),
+            Piece::Text(b" "),
+            Piece::Number(low as u64),
+            Piece::Text(b") "),
+        ],
+    )?;
     add_term(text, naming, a)?;
     add(text, &[Piece::Text(b")")])
 }
@@ -293,17 +311,20 @@ fn add_bound(text: &mut Vec<u8>, b: &Bound) -> Result<(), AllocError>
     let id = Piece::Number(b.id as u64);
     add(text, &[Piece::Text(b"(forall ((y"), id, Piece::Text(b" ")])?;
     add_sort(text, bits)?;
-    add(text, &[
-        Piece::Text(b")) (let ((x"),
-        id,
-        Piece::Text(b" ((_ zero_extend "),
-        Piece::Number(64 - bits as u64),
-        Piece::Text(b") y"),
-        id,
-        Piece::Text(b"))) (=> (bvult x"),
-        id,
-        Piece::Text(b" "),
-    ])?;
+    add(
+        text,
+        &[
+            Piece::Text(b")) (let ((x"),
+            id,
+            Piece::Text(b" ((_ zero_extend "),
+            Piece::Number(64 - bits as u64),
+            Piece::Text(b") y"),
+            id,
+            Piece::Text(b"))) (=> (bvult x"),
+            id,
+            Piece::Text(b" "),
+        ],
+    )?;
     add_constant(text, 64, b.size)?;
     add(text, &[Piece::Text(b") ")])
 }
@@ -372,11 +393,14 @@ fn add_parameters(text: &mut Vec<u8>, naming: &Naming, t: TermId) -> Result<(), 
         return Ok(());
     }
     for id in naming.bound.as_slice() {
-        add(text, &[
-            Piece::Text(b"(x"),
-            Piece::Number(*id as u64),
-            Piece::Text(b" (_ BitVec 64))"),
-        ])?;
+        add(
+            text,
+            &[
+                Piece::Text(b"(x"),
+                Piece::Number(*id as u64),
+                Piece::Text(b" (_ BitVec 64))"),
+            ],
+        )?;
     }
     Ok(())
 }
@@ -390,11 +414,14 @@ pub(crate) fn add_definition(
     requires { t < length naming.now.terms.now }
     ensures { OnOk result (text.new.items ≡ text.old.items ++ definition_at (named naming.now) naming.now.terms.now t) }
 {
-    add(text, &[
-        Piece::Text(b"(define-fun t"),
-        Piece::Number(t.place()),
-        Piece::Text(b" ("),
-    ])?;
+    add(
+        text,
+        &[
+            Piece::Text(b"(define-fun t"),
+            Piece::Number(t.place()),
+            Piece::Text(b" ("),
+        ],
+    )?;
     add_parameters(text, naming, t)?;
     add(text, &[Piece::Text(b") ")])?;
     add_sort(text, naming.terms.width(t))?;

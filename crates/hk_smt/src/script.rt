@@ -32,11 +32,14 @@ fn add_variables(text: &mut Vec<u8>, ids: &[u32]) -> Result<(), AllocError>
     ensures { OnOk result (text.new.items ≡ text.old.items ++ flat_map variable_text ids.now) }
 {
     for id in ids {
-        add(text, &[
-            Piece::Text(b"(declare-const x"),
-            Piece::Number(*id as u64),
-            Piece::Text(b" (_ BitVec 64))\n"),
-        ])?;
+        add(
+            text,
+            &[
+                Piece::Text(b"(declare-const x"),
+                Piece::Number(*id as u64),
+                Piece::Text(b" (_ BitVec 64))\n"),
+            ],
+        )?;
     }
     Ok(())
 }
@@ -46,11 +49,14 @@ fn add_arrays(text: &mut Vec<u8>, ids: &[u32]) -> Result<(), AllocError>
     ensures { OnOk result (text.new.items ≡ text.old.items ++ flat_map array_text ids.now) }
 {
     for id in ids {
-        add(text, &[
-            Piece::Text(b"(declare-const a"),
-            Piece::Number(*id as u64),
-            Piece::Text(b" (Array (_ BitVec 64) (_ BitVec 64)))\n"),
-        ])?;
+        add(
+            text,
+            &[
+                Piece::Text(b"(declare-const a"),
+                Piece::Number(*id as u64),
+                Piece::Text(b" (Array (_ BitVec 64) (_ BitVec 64)))\n"),
+            ],
+        )?;
     }
     Ok(())
 }
@@ -78,7 +84,10 @@ pub fn script_of(alloc: Global, terms: &Terms, goal: TermId) -> Result<Vec<u8>, 
     let naming = naming_of(alloc, terms, count)?;
     let variables = variables_of(alloc, terms, count)?;
     let arrays = arrays_of(alloc, terms, count)?;
-    let mut text = Vec::from_slice(alloc, b"(set-option :produce-models true)\n(set-logic ABV)\n")?;
+    let mut text = Vec::from_slice(
+        alloc,
+        b"(set-option :produce-models true)\n(set-logic ABV)\n",
+    )?;
     add_variables(&mut text, variables.as_slice())?;
     add_arrays(&mut text, arrays.as_slice())?;
     add_definitions(&mut text, &naming, count)?;

@@ -47,22 +47,28 @@ pub(crate) fn add(text: &mut Vec<u8>, pieces: &[Piece]) -> Result<(), AllocError
 pub(crate) fn add_sort(text: &mut Vec<u8>, width: u32) -> Result<(), AllocError>
     ensures { OnOk result (text.new.items ≡ text.old.items ++ sort_text width) }
 {
-    add(text, &[
-        Piece::Text(b"(_ BitVec "),
-        Piece::Number(width as u64),
-        Piece::Text(b")"),
-    ])
+    add(
+        text,
+        &[
+            Piece::Text(b"(_ BitVec "),
+            Piece::Number(width as u64),
+            Piece::Text(b")"),
+        ],
+    )
 }
 
 /// Adds a number as a bit-vector of a width.
 pub(crate) fn add_constant(text: &mut Vec<u8>, width: u32, value: u64) -> Result<(), AllocError>
     ensures { OnOk result (text.new.items ≡ text.old.items ++ constant_text width value) }
 {
-    add(text, &[
-        Piece::Text(b"(_ bv"),
-        Piece::Number(value),
-        Piece::Text(b" "),
-        Piece::Number(width as u64),
-        Piece::Text(b")"),
-    ])
+    add(
+        text,
+        &[
+            Piece::Text(b"(_ bv"),
+            Piece::Number(value),
+            Piece::Text(b" "),
+            Piece::Number(width as u64),
+            Piece::Text(b")"),
+        ],
+    )
 }
