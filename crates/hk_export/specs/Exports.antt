@@ -1,5 +1,6 @@
 -- What an export finds of the proofs of a certificate, saves and says.
 use Rattle.std.specs.Prelude.{ℕ, ◌≡◌, ◌≤◌, ◌⊎◌, Bool, true, false, if◌then◌else◌, nat_eq, List, [], ◌∷◌, ◌++◌, Option, None, Some, IsSome, is_some, is_none, Ok, length, take, bytes_eq, codes}
+use Rattle.core.specs.Option.{option_or}
 use Rattle.std.specs.List.{All, AllZip, Contains, flat_map, list_any, zip}
 use Rattle.hk_io.specs.Faults.{Rose}
 use Rattle.hk_io.specs.Held.{Files, held_under}
@@ -131,19 +132,15 @@ files_of folder s t o (outcome.Refused row reason) = []
 files_of folder s t o outcome.Violated = []
 files_of folder s t o outcome.NoSuch = []
 
-abbrev pub or_else : Option (List ℕ) → Option (List ℕ) → Option (List ℕ)
-or_else None other = other
-or_else (Some bytes) other = Some bytes
-
 -- the bytes under a name among files that are saved one after another: those of the last that has it
 abbrev pub file_under : List File → List ℕ → Option (List ℕ)
 file_under [] name = None
-file_under (file ∷ files) name = or_else (file_under files name) (if bytes_eq file.0 name then Some file.1 else None)
+file_under (file ∷ files) name = option_or (file_under files name) (if bytes_eq file.0 name then Some file.1 else None)
 
 -- these files were saved, one after another, and no other file changed
 pub record AreSaved (held held' : Option Files) (files : List File) : Type 0 where
   pub told : is_some held' ≡ is_some held
-  pub each : (name : List ℕ) → IsSome held → held_under held' name ≡ or_else (file_under files name) (held_under held name)
+  pub each : (name : List ℕ) → IsSome held → held_under held' name ≡ option_or (file_under files name) (held_under held name)
 
 -- the first of these files were saved
 pub record BeginsWith (held held' : Option Files) (files : List File) : Type 0 where
