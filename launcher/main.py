@@ -1,0 +1,34 @@
+"""The first word decides: one of the launcher's own commands, each in a module of its own, or else the program answers."""
+import importlib
+
+from launcher.say import UNABLE, Fault, fault_of, say
+
+# A command, the module whose `run(words)` answers it and gives the exit status, and what --help says of it.
+COMMANDS = {
+    "prove": ("launcher.prove", "prove everything, and build the program that everything is claimed of"),
+    "selftest": ("launcher.selftest", "run every example and stored call of the repository, and compare"),
+    "--version": ("launcher.version", "which program runs, of which commit, and the kit's line"),
+}
+
+
+def run(words):
+    """Answers a call; returns its exit status, where the program has not taken this process over."""
+    try:
+        if words and words[0] in COMMANDS:
+            return importlib.import_module(COMMANDS[words[0]][0]).run(words[1:])
+        from launcher import program
+
+        return program.exec_program(words)
+    except Fault as fault:
+        return unable(fault)
+    except OSError as error:
+        return unable(fault_of(error))
+    except KeyboardInterrupt:
+        return 130
+
+
+def unable(fault):
+    """Says what the launcher cannot do."""
+    for line in str(fault).splitlines():
+        say(line)
+    return UNABLE
