@@ -7,6 +7,7 @@ from launcher.say import UNABLE, Fault, fault_of, say
 COMMANDS = {
     "prove": ("launcher.prove", "prove everything, and build the program that everything is claimed of"),
     "selftest": ("launcher.selftest", "run every example and stored call of the repository, and compare"),
+    "lower": ("launcher.lower", "bring what clang wrote into the profile, by LLVM's opt"),
     "--version": ("launcher.version", "which program runs, of which commit, and the kit's line"),
 }
 

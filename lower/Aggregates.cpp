@@ -8,7 +8,7 @@ namespace hkv {
 
 namespace {
 
-using Path = SmallVector<unsigned, 4>;
+using Path = std::vector<unsigned>; // indices from an aggregate to a part of it
 
 class Splitter {
 public:
@@ -90,24 +90,13 @@ private:
         Part = Part ? Part->getAggregateElement(K) : nullptr;
       return Part;
     }
-    if (auto *Known = Members.lookup(key(Whole, At)))
-      return Known;
+    auto Known = Members.find({Whole, At});
+    if (Known != Members.end())
+      return Known->second;
     Value *Found = compute(Whole, At);
-    if (Found && !isa<PHINode>(Found))
-      Members[key(Whole, At)] = Found;
+    if (Found)
+      Members[{Whole, At}] = Found;
     return Found;
-  }
-
-  std::pair<Value *, std::string> keyOf(Value *Whole, const Path &At) {
-    std::string Text;
-    for (unsigned K : At)
-      Text += utostr(K) + ".";
-    return {Whole, Text};
-  }
-
-  unsigned key(Value *Whole, const Path &At) {
-    auto [Place, New] = Keys.insert({keyOf(Whole, At), unsigned(Keys.size() + 1)});
-    return Place->second;
   }
 
   Value *compute(Value *Whole, const Path &At) {
@@ -118,12 +107,12 @@ private:
       while (Common < Into.size() && Common < At.size() && Into[Common] == At[Common])
         ++Common;
       if (Common == Into.size())
-        return member(Insert->getInsertedValueOperand(), Path(ArrayRef<unsigned>(At).drop_front(Common)));
+        return member(Insert->getInsertedValueOperand(), Path(At.begin() + Common, At.end()));
       return member(Insert->getAggregateOperand(), At);
     }
     if (auto *Extract = dyn_cast<ExtractValueInst>(Whole)) {
-      Path Longer(Extract->getIndices());
-      Longer.append(At.begin(), At.end());
+      Path Longer = Extract->getIndices().vec();
+      Longer.insert(Longer.end(), At.begin(), At.end());
       return member(Extract->getAggregateOperand(), Longer);
     }
     Type *T = ExtractValueInst::getIndexedType(Whole->getType(), At);
@@ -156,7 +145,7 @@ private:
 
   Value *ofPhi(PHINode &Phi, const Path &At, Type *T) {
     auto *New = PHINode::Create(T, Phi.getNumIncomingValues(), "", &Phi);
-    Members[key(&Phi, At)] = New; // before its arms: they may come back to it
+    Members[{&Phi, At}] = New; // before its arms: they may come back to it
     Told.insert(&Phi);
     for (unsigned K = 0; K < Phi.getNumIncomingValues(); ++K) {
       Value *Arm = member(Phi.getIncomingValue(K), At);
@@ -173,7 +162,7 @@ private:
     Value *Whole = Extract.getAggregateOperand();
     if (isa<CallBase>(Whole))
       return false;
-    Value *Part = member(Whole, Path(Extract.getIndices()));
+    Value *Part = member(Whole, Extract.getIndices().vec());
     if (!Part || Part == &Extract)
       return false;
     for (auto &Known : Members)
@@ -212,8 +201,7 @@ private:
   Function &F;
   const DataLayout &DL;
   Report &R;
-  std::map<std::pair<Value *, std::string>, unsigned> Keys;
-  DenseMap<unsigned, Value *> Members;
+  std::map<std::pair<Value *, Path>, Value *> Members;
   SetVector<Instruction *> Told;
   SmallVector<WeakVH, 16> Dead;
 };

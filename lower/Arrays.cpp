@@ -2,8 +2,6 @@
 // choice between the elements, a store one for each of them. That the index is in range, which the access promised, is assumed.
 #include "Lower.h"
 
-#include <numeric>
-
 using namespace llvm;
 
 namespace hkv {

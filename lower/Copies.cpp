@@ -111,7 +111,7 @@ bool expand(CallBase &Call, Report &R) {
   }
   SmallVector<Piece, 16> Pieces = piecesOf(Length->getZExtValue(), Common);
   R.replaced(Call, nameOf(Call) + " of " + Twine(Length->getZExtValue()) + " bytes",
-             (C.Byte ? "stores: " : C.Overlaps ? "loads and then stores: " : "loads and stores: ") + Twine(Pieces.size()));
+             Twine(Pieces.size()) + (C.Byte ? " stores" : C.Overlaps ? " loads and then as many stores" : " loads and stores"));
   IRBuilder<> B(&Call);
   if (C.Byte)
     emitSet(B, C, Pieces);

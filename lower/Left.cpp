@@ -44,6 +44,8 @@ private:
       R.left("the list " + G.getName(), "what runs before the handlers stands in another file");
     else if (!G.hasInitializer())
       R.left("the variable " + G.getName() + " of another file", "define it in this file");
+    else if (G.getParent()->getDataLayout().getTypeAllocSize(G.getValueType()) > 4194304)
+      R.left("the variable " + G.getName() + " of more than 4 MiB", "a smaller table, or one that handlers do not touch in another file");
     else if (holdsPointer(G.getValueType()))
       R.left("a pointer in the variable " + G.getName(), "keep the number of the slot that it points to, and a switch in place of a table of functions");
   }
@@ -67,6 +69,8 @@ private:
       Structs |= A.getType()->isAggregateType() || A.hasAttribute(Attribute::ByVal) || A.hasAttribute(Attribute::StructRet);
     if (Structs)
       R.left(F, "a struct as parameter or result", "pass its members; a function that is static is inlined");
+    if (isRecursive(F))
+      R.left(F, "recursion", "a handler has no calls that come back to it");
     if (F.isVarArg())
       R.left(F, "a variable number of parameters", "fix their number");
   }

@@ -45,6 +45,11 @@
 #include "llvm/Transforms/Utils/Mem2Reg.h"
 #include "llvm/Transforms/Utils/UnrollLoop.h"
 
+#include <map>
+#include <numeric>
+#include <optional>
+#include <vector>
+
 namespace hkv {
 
 inline llvm::SROAPass sroaPass() {

@@ -32,20 +32,6 @@ SmallVector<AllocaInst *, 16> memoryLocals(Function &F) {
   return Found;
 }
 
-bool reaches(const Function &From, const Function &To, SmallPtrSetImpl<const Function *> &Seen) {
-  for (const Instruction &I : instructions(From))
-    if (auto *Call = dyn_cast<CallBase>(&I))
-      if (const Function *Next = Call->getCalledFunction())
-        if (Next == &To || (Seen.insert(Next).second && reaches(*Next, To, Seen)))
-          return true;
-  return false;
-}
-
-bool isRecursive(const Function &F) {
-  SmallPtrSet<const Function *, 16> Seen;
-  return reaches(F, F, Seen);
-}
-
 bool canInline(const CallBase &Call) {
   const Function *Callee = Call.getCalledFunction();
   return Callee && !Callee->isDeclaration() && !Callee->isVarArg() && Callee->getFunctionType() == Call.getFunctionType() && !isRecursive(*Callee);

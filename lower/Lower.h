@@ -108,6 +108,9 @@ struct Piece {
 // So many bytes as the widest words that an alignment of the first one allows.
 llvm::SmallVector<Piece, 16> piecesOf(uint64_t Length, llvm::Align Alignment);
 
+// Whether calls lead from the function back to it.
+bool isRecursive(const llvm::Function &F);
+
 // Replaces an instruction by a value and deletes it.
 void replaceBy(llvm::Instruction &I, llvm::Value *V);
 

@@ -32,6 +32,24 @@ SmallVector<Piece, 16> piecesOf(uint64_t Length, Align Alignment) {
   return Pieces;
 }
 
+namespace {
+
+bool reaches(const Function &From, const Function &To, SmallPtrSetImpl<const Function *> &Seen) {
+  for (const Instruction &I : instructions(From))
+    if (auto *Call = dyn_cast<CallBase>(&I))
+      if (const Function *Next = Call->getCalledFunction())
+        if (Next == &To || (Seen.insert(Next).second && reaches(*Next, To, Seen)))
+          return true;
+  return false;
+}
+
+} // namespace
+
+bool isRecursive(const Function &F) {
+  SmallPtrSet<const Function *, 16> Seen;
+  return reaches(F, F, Seen);
+}
+
 void replaceBy(Instruction &I, Value *V) {
   if (V->getType() == I.getType() && isa<Instruction>(V) && !V->hasName())
     V->takeName(&I);

@@ -188,7 +188,7 @@ bool splitAccesses(Function &F, Report &R) {
     Type *T = Load ? Load->getType() : Store->getValueOperand()->getType();
     if (!isOdd(T) || isOwnSlot(getLoadStorePointerOperand(&I), T))
       continue;
-    R.replaced(I, Twine(I.getOpcodeName()) + " of i" + Twine(T->getIntegerBitWidth()), "those of its bytes and words");
+    R.replaced(I, Twine(I.getOpcodeName()) + " of i" + Twine(T->getIntegerBitWidth()), Load ? "loads of bytes and words" : "stores of bytes and words");
     if (Load)
       splitLoad(*Load);
     else
