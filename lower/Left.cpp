@@ -8,8 +8,6 @@ namespace hkv {
 
 namespace {
 
-bool isWide(const Type *T) { return T->isIntegerTy() && T->getIntegerBitWidth() > 64; }
-
 bool holdsPointer(const Type *T) {
   if (auto *Array = dyn_cast<ArrayType>(T))
     return holdsPointer(Array->getElementType());
@@ -79,7 +77,7 @@ private:
     auto Seen = [&](auto Is) { return Is(I.getType()) || any_of(I.operands(), [&](const Use &U) { return Is(U->getType()); }); };
     if (Seen([](const Type *T) { return T->isFPOrFPVectorTy(); }))
       return "a floating point number: count in integers";
-    if (Seen([](const Type *T) { return isWide(T->getScalarType()); }))
+    if (Seen([](const Type *T) { return isWideInteger(T->getScalarType()); }))
       return "an integer of more than 64 bits: compute with two halves of 64 bits";
     if (Seen([](const Type *T) { return T->isVectorTy(); }))
       return "a vector: compile with -fno-vectorize -fno-slp-vectorize";

@@ -78,6 +78,9 @@ bool expandBits(llvm::Function &F, Report &R);
 // Saturating arithmetic, three-way comparisons.
 bool expandSaturation(llvm::Function &F, Report &R);
 
+// Integers of more than 64 bits, by words.
+bool splitWide(llvm::Function &F, Report &R);
+
 // Integers of other widths than 8, 16, 32 and 64 in memory.
 bool widenMemory(llvm::Module &M, Report &R);
 
@@ -95,6 +98,9 @@ void fixSources(llvm::Value *V);
 
 // The name of a called function, or of an instruction's operation.
 std::string nameOf(const llvm::Instruction &I);
+
+// Whether it is an integer of more than 64 bits.
+bool isWideInteger(const llvm::Type *T);
 
 // The address so many bytes behind another one, in one variable.
 llvm::Value *byteAt(llvm::IRBuilder<> &B, llvm::Value *Address, uint64_t Offset);

@@ -40,11 +40,9 @@ public:
         makePlain(F, FAM, R);
     });
     takeLocalsApart(M, MAM, FAM, R);
-    onBodies(M, [&](Function &F) {
-      splitVectors(F, FAM, R);
-      expandCopies(F, R);
-      splitAggregates(F, R);
-    });
+    takeValuesApart(M, FAM, R);
+    promoteLocals(M, MAM, R); // of which parts were copied
+    takeValuesApart(M, FAM, R);
     fixUndef(M, R);
     onBodies(M, [&](Function &F) {
       expandBits(F, R);
@@ -64,6 +62,17 @@ private:
     for (Function &F : M)
       if (!F.isDeclaration())
         Act(F);
+  }
+
+  void takeValuesApart(Module &M, FunctionAnalysisManager &FAM, Report &R) {
+    onBodies(M, [&](Function &F) {
+      bool Changed = splitVectors(F, FAM, R);
+      Changed |= expandCopies(F, R);
+      Changed |= splitAggregates(F, R);
+      Changed |= splitWide(F, R);
+      if (Changed)
+        FAM.invalidate(F, PreservedAnalyses::none());
+    });
   }
 
   // Inlining brings new locals and loops, and unrolled loops have known indices.

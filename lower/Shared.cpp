@@ -16,6 +16,8 @@ std::string nameOf(const Instruction &I) {
   return I.getOpcodeName();
 }
 
+bool isWideInteger(const Type *T) { return T->isIntegerTy() && T->getIntegerBitWidth() > 64; }
+
 Value *byteAt(IRBuilder<> &B, Value *Address, uint64_t Offset) {
   return Offset == 0 ? Address : B.CreateConstInBoundsGEP1_64(B.getInt8Ty(), Address, Offset);
 }

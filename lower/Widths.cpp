@@ -21,10 +21,12 @@ class Types {
 public:
   explicit Types(const DataLayout &DL) : DL(DL) {}
 
-  // The type with whole integers in place of odd ones; the same type where it has none.
+  // The type with whole integers in place of odd ones, and words in place of wide ones; the same type where it has none.
   Type *whole(Type *T) {
     if (isOdd(T))
       return IntegerType::get(T->getContext(), 8 * unsigned(DL.getTypeAllocSize(T)));
+    if (isWideInteger(T))
+      return ArrayType::get(Type::getInt64Ty(T->getContext()), DL.getTypeAllocSize(T) / 8);
     if (auto *Array = dyn_cast<ArrayType>(T))
       return ArrayType::get(whole(Array->getElementType()), Array->getNumElements());
     auto *Struct = dyn_cast<StructType>(T);
@@ -35,10 +37,10 @@ public:
     Type *T = whole(C->getType());
     if (T == C->getType())
       return C;
-    if (auto *Number = dyn_cast<ConstantInt>(C))
-      return ConstantInt::get(T, Number->getZExtValue());
     if (C->isNullValue())
       return Constant::getNullValue(T);
+    if (auto *Number = dyn_cast<ConstantInt>(C))
+      return wholeNumber(Number->getValue(), T);
     SmallVector<Constant *, 16> Parts;
     unsigned Count = isa<StructType>(T) ? T->getStructNumElements() : unsigned(T->getArrayNumElements());
     for (unsigned K = 0; K < Count; ++K)
@@ -49,6 +51,22 @@ public:
   }
 
 private:
+  static Constant *wholeNumber(const APInt &N, Type *T) {
+    if (T->isIntegerTy())
+      return ConstantInt::get(T, N.getZExtValue());
+    APInt Long = N.zext(64 * unsigned(T->getArrayNumElements()));
+    return ConstantDataArray::get(T->getContext(), ArrayRef<uint64_t>(Long.getRawData(), Long.getNumWords()));
+  }
+
+  // Whether all members stand where they stood: a wide integer may have a greater alignment than its words.
+  bool isLaidOutAs(StructType &Old, StructType &New) {
+    const StructLayout &A = *DL.getStructLayout(&Old), &B = *DL.getStructLayout(&New);
+    for (unsigned K = 0; K < Old.getNumElements(); ++K)
+      if (A.getElementOffset(K) != B.getElementOffset(K))
+        return false;
+    return A.getSizeInBytes() == B.getSizeInBytes();
+  }
+
   Type *wholeStruct(StructType &Old) {
     if (Type *Known = Structs.lookup(&Old))
       return Known;
@@ -58,10 +76,10 @@ private:
       Parts.push_back(whole(Part));
       Changed |= Parts.back() != Part;
     }
-    Type *New = &Old;
-    if (Changed && Old.isLiteral())
-      New = StructType::get(Old.getContext(), Parts, Old.isPacked());
-    else if (Changed) {
+    auto *Literal = StructType::get(Old.getContext(), Parts, Old.isPacked());
+    Changed = Changed && isLaidOutAs(Old, *Literal);
+    Type *New = Changed ? Literal : &Old;
+    if (Changed && !Old.isLiteral()) {
       std::string Name = Old.getName().str();
       Old.setName("");
       New = StructType::create(Old.getContext(), Parts, Name, Old.isPacked());
