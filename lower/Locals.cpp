@@ -85,6 +85,46 @@ bool promote(Function &F, FunctionAnalysisManager &FAM) {
   return true;
 }
 
+// All loads and stores of integers through the address, where nothing else is done with it and each step is constant.
+bool plainAccesses(Value &Address, SmallVectorImpl<Instruction *> &Found) {
+  return all_of(Address.users(), [&](User *U) {
+    if (auto *Step = dyn_cast<GetElementPtrInst>(U))
+      return Step->hasAllConstantIndices() && plainAccesses(*Step, Found);
+    auto *I = cast<Instruction>(U);
+    if (isa<DbgInfoIntrinsic>(I))
+      return true;
+    if (!isa<LoadInst>(I) && !(isa<StoreInst>(I) && getLoadStorePointerOperand(I) == &Address))
+      return false;
+    Type *T = getLoadStoreType(I);
+    Found.push_back(I);
+    return !I->isVolatile() && !I->isAtomic() && T->isIntegerTy() && T->getIntegerBitWidth() <= 64;
+  });
+}
+
+// Words that overlap keep SROA from taking a local apart: as bytes they do not.
+bool splitBytes(AllocaInst &Local) {
+  SmallVector<Instruction *, 16> Found;
+  if (Local.isArrayAllocation() || !plainAccesses(Local, Found) || Found.empty())
+    return false;
+  for (Instruction *I : Found)
+    if (auto *Load = dyn_cast<LoadInst>(I))
+      loadByPieces(*Load, Align(1));
+    else
+      storeByPieces(*cast<StoreInst>(I), Align(1));
+  return true;
+}
+
+bool promoteBytes(Function &F, FunctionAnalysisManager &FAM) {
+  bool Changed = false;
+  for (AllocaInst *Local : memoryLocals(F))
+    Changed |= splitBytes(*Local);
+  if (Changed) {
+    FAM.invalidate(F, PreservedAnalyses::none());
+    promote(F, FAM);
+  }
+  return Changed;
+}
+
 bool inlineOnce(Function &F, FunctionAnalysisManager &FAM, Report &R) {
   bool Changed = false;
   for (CallBase *Call : callsToInline(F)) {
@@ -128,6 +168,7 @@ bool promoteLocals(Module &M, ModuleAnalysisManager &MAM, Report &R) {
       Inlined = Here = true;
       promote(F, FAM);
     }
+    Here |= promoteBytes(F, FAM);
     Changed |= Here;
     for (auto &[Handle, Place] : Before)
       if (!Handle)

@@ -114,6 +114,10 @@ struct Piece {
 // So many bytes as the widest words that an alignment of the first one allows.
 llvm::SmallVector<Piece, 16> piecesOf(uint64_t Length, llvm::Align Alignment);
 
+// An integer of at most 64 bits loaded or stored as the widest words that the alignment allows.
+void loadByPieces(llvm::LoadInst &Load, llvm::Align Alignment);
+void storeByPieces(llvm::StoreInst &Store, llvm::Align Alignment);
+
 // Whether calls lead from the function back to it.
 bool isRecursive(const llvm::Function &F);
 

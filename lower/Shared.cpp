@@ -117,4 +117,36 @@ void fixSources(Value *V) {
   }
 }
 
+void loadByPieces(LoadInst &Load, Align Alignment) {
+  IRBuilder<> B(&Load);
+  unsigned Width = Load.getType()->getIntegerBitWidth();
+  Type *Wide = B.getIntNTy(std::max<unsigned>(8, PowerOf2Ceil(Width)));
+  Value *All = nullptr;
+  for (const Piece &W : piecesOf((Width + 7) / 8, Alignment)) {
+    Value *Part = B.CreateAlignedLoad(B.getIntNTy(8 * W.Bytes), byteAt(B, Load.getPointerOperand(), W.Offset), commonAlignment(Alignment, W.Offset));
+    Part = B.CreateZExt(Part, Wide);
+    if (W.Offset != 0)
+      Part = B.CreateShl(Part, ConstantInt::get(Wide, 8 * W.Offset));
+    All = All ? B.CreateOr(All, Part) : Part;
+  }
+  replaceBy(Load, B.CreateTrunc(All, Load.getType()));
+}
+
+void storeByPieces(StoreInst &Store, Align Alignment) {
+  Value *Number = Store.getValueOperand();
+  unsigned Width = Number->getType()->getIntegerBitWidth();
+  SmallVector<Piece, 16> Words = piecesOf((Width + 7) / 8, Alignment);
+  if (Words.size() > 1)
+    fixSources(Number);
+  IRBuilder<> B(&Store);
+  Type *Wide = B.getIntNTy(std::max<unsigned>(8, PowerOf2Ceil(Width)));
+  Value *All = B.CreateZExt(Store.getValueOperand(), Wide);
+  for (const Piece &W : Words) {
+    Value *Part = W.Offset == 0 ? All : B.CreateLShr(All, ConstantInt::get(Wide, 8 * W.Offset));
+    Part = B.CreateTrunc(Part, B.getIntNTy(8 * W.Bytes));
+    B.CreateAlignedStore(Part, byteAt(B, Store.getPointerOperand(), W.Offset), commonAlignment(Alignment, W.Offset));
+  }
+  Store.eraseFromParent();
+}
+
 } // namespace hkv

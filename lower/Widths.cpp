@@ -153,38 +153,6 @@ bool widenAddresses(Function &F, Types &Whole) {
 
 // ---- accesses
 
-void splitLoad(LoadInst &Load) {
-  IRBuilder<> B(&Load);
-  unsigned Width = Load.getType()->getIntegerBitWidth();
-  Type *Wide = B.getIntNTy(std::max<unsigned>(8, PowerOf2Ceil(Width)));
-  Value *All = nullptr;
-  for (const Piece &W : piecesOf((Width + 7) / 8, Load.getAlign())) {
-    Value *Part = B.CreateAlignedLoad(B.getIntNTy(8 * W.Bytes), byteAt(B, Load.getPointerOperand(), W.Offset), commonAlignment(Load.getAlign(), W.Offset));
-    Part = B.CreateZExt(Part, Wide);
-    if (W.Offset != 0)
-      Part = B.CreateShl(Part, ConstantInt::get(Wide, 8 * W.Offset));
-    All = All ? B.CreateOr(All, Part) : Part;
-  }
-  replaceBy(Load, B.CreateTrunc(All, Load.getType()));
-}
-
-void splitStore(StoreInst &Store) {
-  Value *Number = Store.getValueOperand();
-  unsigned Width = Number->getType()->getIntegerBitWidth();
-  SmallVector<Piece, 16> Words = piecesOf((Width + 7) / 8, Store.getAlign());
-  if (Words.size() > 1)
-    fixSources(Number);
-  IRBuilder<> B(&Store);
-  Type *Wide = B.getIntNTy(std::max<unsigned>(8, PowerOf2Ceil(Width)));
-  Value *All = B.CreateZExt(Store.getValueOperand(), Wide);
-  for (const Piece &W : Words) {
-    Value *Part = W.Offset == 0 ? All : B.CreateLShr(All, ConstantInt::get(Wide, 8 * W.Offset));
-    Part = B.CreateTrunc(Part, B.getIntNTy(8 * W.Bytes));
-    B.CreateAlignedStore(Part, byteAt(B, Store.getPointerOperand(), W.Offset), commonAlignment(Store.getAlign(), W.Offset));
-  }
-  Store.eraseFromParent();
-}
-
 // A local that is loaded and stored in this one type may keep it.
 bool isOwnSlot(const Value *Address, const Type *T) {
   auto *A = dyn_cast<AllocaInst>(Address);
@@ -208,9 +176,9 @@ bool splitAccesses(Function &F, Report &R) {
       continue;
     R.replaced(I, Twine(I.getOpcodeName()) + " of i" + Twine(T->getIntegerBitWidth()), Load ? "loads of bytes and words" : "stores of bytes and words");
     if (Load)
-      splitLoad(*Load);
+      loadByPieces(*Load, Load->getAlign());
     else
-      splitStore(*Store);
+      storeByPieces(*Store, Store->getAlign());
     Changed = true;
   }
   return Changed;
