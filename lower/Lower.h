@@ -35,6 +35,7 @@ public:
   void end() const;
 
 private:
+  void noteLine(llvm::Instruction &I, uint64_t Line);
   void say(llvm::StringRef Kind, const llvm::Twine &Place, const llvm::Twine &What, const llvm::Twine &How);
 
   llvm::Module &M;

@@ -17,11 +17,21 @@ public:
   DenseMap<const Instruction *, unsigned> Lines;
 };
 
-StringRef lineAt(ArrayRef<StringRef> Lines, unsigned Line) { return Line < Lines.size() ? Lines[Line].trim() : StringRef(); }
+StringRef lineAt(ArrayRef<StringRef> Lines, size_t Line) { return Line < Lines.size() ? Lines[Line].trim() : StringRef(); }
+
+// On which line each function begins.
+StringMap<size_t> heads(ArrayRef<StringRef> Lines) {
+  StringMap<size_t> Found;
+  for (size_t K = 0; K < Lines.size(); ++K)
+    if (Lines[K].take_front(7) == "define ")
+      Found[Lines[K].split('@').second.take_until([](char C) { return C == '('; })] = K;
+  return Found;
+}
 
 } // namespace
 
-// The text is printed again, as LLVM wrote it. Where a line of the file is the line that was printed, that line is the instruction's.
+// The text is printed again, as LLVM writes it. Where the line of the file that stands as far behind the head of its function is the
+// line that was printed, it is the instruction's.
 void Report::noteLines() {
   auto File = MemoryBuffer::getFile(M.getModuleIdentifier(), /*IsText=*/true);
   if (!File)
@@ -36,16 +46,19 @@ void Report::noteLines() {
   SmallVector<StringRef, 0> Printed, Read;
   StringRef(Text).split(Printed, '\n');
   (*File)->getBuffer().split(Read, '\n');
-  unsigned Kind = M.getContext().getMDKindID(LineKind);
+  StringMap<size_t> PrintedHeads = heads(Printed), ReadHeads = heads(Read);
   for (Function &F : M)
     for (Instruction &I : instructions(F)) {
-      unsigned Line = Noter.Lines.lookup(&I);
-      StringRef There = lineAt(Printed, Line);
-      if (There.empty() || There != lineAt(Read, Line))
-        continue;
-      auto *Number = ConstantAsMetadata::get(ConstantInt::get(Type::getInt32Ty(M.getContext()), Line + 1));
-      I.setMetadata(Kind, MDNode::get(M.getContext(), Number));
+      size_t There = Noter.Lines.lookup(&I), Line = There - PrintedHeads.lookup(F.getName()) + ReadHeads.lookup(F.getName());
+      if (!lineAt(Printed, There).empty() && lineAt(Printed, There) == lineAt(Read, Line))
+        noteLine(I, Line + 1);
     }
+}
+
+void Report::noteLine(Instruction &I, uint64_t Line) {
+  LLVMContext &Context = M.getContext();
+  auto *Number = ConstantAsMetadata::get(ConstantInt::get(Type::getInt64Ty(Context), Line));
+  I.setMetadata(Context.getMDKindID(LineKind), MDNode::get(Context, Number));
 }
 
 void Report::forgetLines() {

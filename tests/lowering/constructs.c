@@ -129,7 +129,7 @@ u64 looked_up(u64 a, u64 b, u64 c) { static const struct triple known[3] = {{1, 
 /* ---- vectors */
 typedef u32 four __attribute__((vector_size(16)));
 typedef u8 eight __attribute__((vector_size(8)));
-u64 vectors(u64 a, u64 b, u64 c) { four v = {(u32)a, (u32)b, (u32)c, 4}, w = v * 3 + (v >> 2); w = w > v ? w : v ^ 9; return w[0] + (u64)w[1] * 5 + w[2] * 7u + w[a & 3]; }
+u64 vectors(u64 a, u64 b, u64 c) { four v = {(u32)a, (u32)b, (u32)c, 4}, w = v * 3 + (v >> 2); four m = (four)(w > v); w = (w & m) | ((v ^ 9) & ~m); return w[0] + (u64)w[1] * 5 + w[2] * 7u + w[a & 3]; }
 u64 lanes(u64 a, u64 b, u64 c) { eight v = (eight)a, w = (eight)b; v = v + w * (u8)c; return (u64)__builtin_shufflevector(v, w, 0, 9, 2, 11, 7, 6, 5, 12); }
 u64 neighbours(u64 a, u64 b, u64 c) { numbers[0] += (u32)a; numbers[1] += (u32)a; numbers[2] += (u32)b; numbers[3] += (u32)b; return numbers[4] + numbers[5] + numbers[6] + numbers[7] + c; }
 u64 swapped_lanes(u64 a, u64 b, u64 c) { u32 x = numbers[0], y = numbers[1], z = numbers[2], w = numbers[3]; numbers[0] = w + (u32)a; numbers[1] = z; numbers[2] = y + (u32)b; numbers[3] = x; return c; }
