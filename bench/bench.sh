@@ -6,8 +6,8 @@
 set -eu
 root=$(cd "$(dirname "$0")/.." && pwd)
 questions=${1:?usage: bench/bench.sh QUESTIONS [PROGRAM]}
-program=${2:-$root/crates/hkv/out/hkv}
-if [ $# -lt 2 ]; then "$root/hkv" >/dev/null || true; fi
+program=${2:-}
+if [ -z "$program" ]; then program=$(HKV_PROVED=1 "$root/hkv" --program); fi
 
 python3 - "$program" "$questions" <<'TIME'
 import os, subprocess, sys

@@ -7,8 +7,7 @@ set -eu
 root=$(cd "$(dirname "$0")/.." && pwd)
 program=${1:-}
 if [ -z "$program" ]; then
-  "$root/hkv" >/dev/null || true
-  program=$root/crates/hkv/out/hkv
+  program=$(HKV_PROVED=1 "$root/hkv" --program)
 fi
 work=$(mktemp -d)
 trap 'rm -rf "$work"' EXIT

@@ -5,7 +5,7 @@ set -eu
 root=$(cd "$(dirname "$0")/.." && pwd)
 work=$(mktemp -d)
 trap 'rm -rf "$work"' EXIT
-"$root/hkv" >/dev/null || true
+program=$(HKV_PROVED=1 "$root/hkv" --program)
 
 cat >"$work/spec.py" <<'SPEC'
 class S:
@@ -31,7 +31,7 @@ kernel() { # kernel EXTRA: the handler with so many additions of 0 more
 
 for extra in 0 8 64; do
   kernel "$extra" >"$work/kernel.ll"
-  python3 - "$root/crates/hkv/out/hkv" "$work/kernel.ll" "$work/spec.py" "$extra" <<'TIME'
+  python3 - "$program" "$work/kernel.ll" "$work/spec.py" "$extra" <<'TIME'
 import resource, subprocess, sys
 program, kernel, spec, extra = sys.argv[1:]
 for _ in range(10):

@@ -1,15 +1,14 @@
 #!/bin/sh
 # examples.sh [SECONDS]: measures each handler of examples/files.c at three sizes, and the one whose budget is spent: user
 # time, elapsed time and peak of memory of each run. A run that takes more user time than SECONDS, 60 where none is
-# given, is ended. It needs clang-16. HKV names the program; without it, it is the one that the launcher builds.
+# given, is ended. It needs clang-16. HKV names the program; without it, it is the proved one, which `./hkv prove` builds.
 set -eu
 root=$(cd "$(dirname "$0")/.." && pwd)
 seconds=${1:-60}
 work=$(mktemp -d)
 trap 'rm -rf "$work"' EXIT
 if [ -z "${HKV:-}" ]; then
-  "$root/hkv" >/dev/null || true
-  HKV=$root/crates/hkv/out/hkv
+  HKV=$(HKV_PROVED=1 "$root/hkv" --program)
 fi
 
 run() { # run TITLE KERNEL SPEC

@@ -2,7 +2,7 @@
 
 They stand behind `$ ` in the blocks marked `console`, and run in the order of the text, in a copy of examples/, with the
 launcher on the path, or with the program that the environment's HKV names as hkv. With --write the guide gets what they
-show. It needs clang-16.
+show, but for the line that the launcher puts at each call of the quick program. It needs clang-16.
 """
 import os
 import re
@@ -14,6 +14,7 @@ import tempfile
 ROOT = os.path.dirname(os.path.dirname(os.path.abspath(__file__)))
 GUIDE = os.path.join(ROOT, 'docs', 'GUIDE.md')
 PROGRAM = os.environ.get('HKV', os.path.join(ROOT, 'hkv'))
+QUICK = 'hkv: this is the quick program'
 BLOCK = re.compile(r'^```console\n(.*?)^```\n', re.M | re.S)
 
 
@@ -22,7 +23,7 @@ def shown(command, folder, path):
     where = {**os.environ, 'PATH': path + os.pathsep + os.environ['PATH']}
     ran = subprocess.run(['bash', '-c', command], cwd=folder, env=where, stdin=subprocess.DEVNULL,
                          stdout=subprocess.PIPE, stderr=subprocess.STDOUT, text=True)
-    return ran.stdout
+    return ''.join(line for line in ran.stdout.splitlines(True) if not line.startswith(QUICK))
 
 
 def main():

@@ -7,9 +7,9 @@ set -eu
 root=$(cd "$(dirname "$0")/.." && pwd)
 work=$(mktemp -d)
 trap 'rm -rf "$work"' EXIT
-"$root/hkv" >/dev/null || true
+program=$(HKV_PROVED=1 "$root/hkv" --program)
 
-python3 - "$root/crates/hkv/out/hkv" "$work" <<'RUN'
+python3 - "$program" "$work" <<'RUN'
 import os, resource, subprocess, sys, time
 
 program, work = sys.argv[1:]

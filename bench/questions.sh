@@ -15,9 +15,9 @@ if [ $# -ne 2 ]; then
 fi
 work=$(mktemp -d)
 trap 'rm -rf "$work"' EXIT
-"$root/hkv" >/dev/null || true
+program=$(HKV_PROVED=1 "$root/hkv" --program)
 
-python3 - "$root/crates/hkv/out/hkv" "$1" "$2" "$work" <<'RUNS'
+python3 - "$program" "$1" "$2" "$work" <<'RUNS'
 import glob, os, re, shutil, subprocess, sys
 program, questions, texts, work = sys.argv[1:]
 

@@ -3,11 +3,11 @@
 
 The kernel has 25 handlers over processes, files and pages; the specification has 25 fields, 5 invariants and 12 properties, so a
 handler has 44 obligations. NPROC, NFILE and NPAGE in the environment are the sizes (8, 16 and 16), and the kernel is compiled by
-CLANG (clang-16). PROGRAM is a program of hkv (the repository's, which is built first, where no other is named).
+CLANG (clang-16). PROGRAM is a program of hkv (the proved one of the repository, where no other is named).
 Prints for each handler, decided alone, the verdict, the processor time (user and system, the start of the program counted), and the
 greatest resident memory; then the same of one run over all handlers. With KEEP=FOLDER both texts stay in that folder.
 """
-import os, subprocess, sys, tempfile
+import os, shlex, subprocess, sys, tempfile
 
 NPROC, NFILE, NPAGE = (int(os.environ.get(name, size)) for name, size in (('NPROC', 8), ('NFILE', 16), ('NPAGE', 16)))
 NFD = NWORD = 4
@@ -426,8 +426,9 @@ def used(command):
 def main():
     program, wanted = sys.argv[1:2], sys.argv[2:] or list(HANDLERS)
     if not program:
-        subprocess.run([f'{root}/hkv'], stdout=subprocess.DEVNULL, stderr=subprocess.DEVNULL)
-        program = [f'{root}/crates/hkv/out/hkv']
+        told = subprocess.run([f'{root}/hkv', '--program'], stdout=subprocess.PIPE, text=True, check=True,
+                              env={**os.environ, 'HKV_PROVED': '1'})
+        program = shlex.split(told.stdout)
     with tempfile.TemporaryDirectory() as work:
         work = os.environ.get('KEEP', work)
         os.makedirs(work, exist_ok=True)

@@ -5,8 +5,8 @@ Usage: bench/seconds.py [CHECKOUT] > crates.seconds     (by default this one)
 
 `rt` makes a crate's folder out/rlib when it begins with the crate, and writes there last when that is proved: the time between is the
 crate's. A crate that was taken from an earlier run took no time; it is left out with those that are not proved yet. The head says what was
-measured: the minutes from the first beginning to the last end, with all else that the run did, the room that the folders take, and the
-processors of the machine that this is called on, which should be the one that proved.
+measured: the processors of the machine that this is called on, which should be the one that proved, and, where no crate is missing, the
+minutes from the first beginning to the last end, with all else that the run did, and the room that the folders take.
 """
 import os
 import subprocess
@@ -56,8 +56,9 @@ def main(words):
     print(f"# kit: {kit.line()}")
     print(f"# crates: {len(found)} of {len(names)}{', without ' + ' '.join(missing) if missing else ''}")
     print(f"# processors: {os.cpu_count()}")
-    print(f"# minutes: {minutes:.0f}")
-    print(f"# gigabytes: {size / 1e9:.1f}")
+    if not missing:
+        print(f"# minutes: {minutes:.0f}")
+        print(f"# gigabytes: {size / 1e9:.1f}")
     for name, (began, ended) in found.items():
         print(f"{name}: {ended - began:.0f}")
 

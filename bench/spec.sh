@@ -6,8 +6,8 @@ set -eu
 root=$(cd "$(dirname "$0")/.." && pwd)
 work=$(mktemp -d)
 trap 'rm -rf "$work"' EXIT
-"$root/hkv" >/dev/null 2>&1 || true
-python3 - "$root/crates/hkv/out/hkv" "$work" <<'RUN'
+program=$(HKV_PROVED=1 "$root/hkv" --program)
+python3 - "$program" "$work" <<'RUN'
 import resource, subprocess, sys
 program, work = sys.argv[1:]
 handlers, size = 256, 1 << 20

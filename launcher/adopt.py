@@ -1,8 +1,8 @@
 """The proved program that a run of `rt` left in crates/hkv/out: whether it is of these sources, and keeping it under their name.
 
 Only proved crates are built, so what stands there was proved, of the sources of its time. It is of the present ones where none of
-them has changed since: each source of a library before that library's folder out/rlib was last written, and each source, crates.txt
-and the kit before the program was. The times are those that the system sets at a change, so that files which a copy brought back
+them has changed since: no source of a library after that library's folder out/rlib was last written, and no source, crates.txt or
+the kit after the program was. The times are those that the system sets at a change, so that files which a copy brought back
 count as changed. Whatever this cannot show is left to `./hkv prove`.
 """
 import os
@@ -15,13 +15,13 @@ KEEP = 2
 
 
 def adopted(now):
-    """Whether the program that stands there is of these sources; it is kept then."""
-    if not program.is_runnable(BUILT) or not is_current():
-        return False
-    if sources.current() != now:
-        return False
-    keep(now)
-    return True
+    """The program that stands there, where it is of these sources; a copy of it, where one can be kept. Else None."""
+    if not program.is_runnable(BUILT) or not is_current() or sources.current() != now:
+        return None
+    try:
+        return keep(now)
+    except OSError:
+        return BUILT
 
 
 def is_current():
@@ -34,7 +34,7 @@ def is_current():
         return False
     for name in sources.crates():
         written = end if name == "hkv" else written_at(name)
-        if written is None or written > end or changed_at(name) >= written:
+        if written is None or changed_at(name) >= min(written, end):
             return False
     return True
 
@@ -57,10 +57,11 @@ def changed_at(name):
 
 
 def keep(now):
-    """Keeps a copy of the program under the sources' name."""
+    """Keeps a copy of the program under the sources' name; its path."""
     home = kept("proved", now.name)
     os.makedirs(home, exist_ok=True)
     part = os.path.join(home, f"hkv.{os.getpid()}")
     shutil.copy2(BUILT, part)
     os.replace(part, os.path.join(home, "hkv"))
     work.drop_old(kept("proved"), now.name, KEEP)
+    return os.path.join(home, "hkv")

@@ -1,21 +1,19 @@
 """Builds the quick program: the program of these sources without their proofs, with run-time tests in.
 
-What comes in: the sources' name. What goes out: the words that run the program, and under .hkv/quick/NAME the program itself.
-`rt try` reads the sources and leaves the program as LLVM bitcode, module.bc, below its TMPDIR before it compiles it with a sanitizer. The
-file is hard-linked as soon as it appears. The link outlives that folder, and is whole once `rt try` has gone on to compile: its own
-output file appears beside the module. The kit's clang and linker then make a program of it: at -O0 for the first answer, and at -O2 in
-the background, which takes the first one's place.
+What comes in: the sources' name. What goes out: the words that run the program, and under .hkv/quick/NAME the program itself. The
+sources come as a module of LLVM bitcode (module.py), of which the kit's clang and linker make a program: at -O0 for the first answer,
+and at -O2 in the background (optimise.py), which takes the first one's place.
 """
+import errno
 import os
 import stat
 import sys
 
 from launcher import kit, locks, work
+from launcher.module import MEGABYTES, Unlike, caught
 from launcher.places import PROGRAM_CRATE, TOP, kept
 from launcher.say import Fault, say
 
-# What a build takes at its most, measured: the module, the object and the program, and what `rt try` writes beside them.
-MEGABYTES = 260
 # The kit's own words for compiling a module (those of `rt try`, without its sanitizer).
 COMPILE = (
     "-march=x86-64 -mllvm -no-trap-after-noreturn -ffunction-sections -fdata-sections -mllvm -trap-unreachable "
@@ -25,15 +23,23 @@ COMPILE = (
 ).split()
 TARGET = "x86_64-unknown-linux-gnu"
 KEEP = 2
+# Python as it runs this, without what a machine adds to it.
+PYTHON = (sys.executable, "-IS")
 STEPS = {"read": "reading the sources", "compile": "compiling", "optimise": "compiling once more, optimised"}
-
-
-class Unlike(Exception):
-    """The kit's inside is not as this module expects it."""
 
 
 def quick(now):
     """The words that run the quick program of these sources, which is built where it is not there."""
+    try:
+        return found_or_built(now)
+    except OSError as error:
+        if error.errno in (errno.ENOSPC, errno.EDQUOT):
+            raise work.full(MEGABYTES) from None
+        raise
+
+
+def found_or_built(now):
+    """The same; a full disk comes as the system tells it."""
     home = kept("quick", now.name)
     program = os.path.join(home, "hkv")
     if not os.access(program, os.X_OK):
@@ -44,7 +50,7 @@ def quick(now):
                     why = built(now, home)
         if why is not None:
             say(f"the program runs by 'rt try', which takes minutes for each call, since {why}")
-            return (sys.executable, os.path.join(TOP, "launcher", "slow.py"))
+            return (*PYTHON, os.path.join(TOP, "launcher", "slow.py"))
     optimise_behind(now.name)
     return (program,)
 
@@ -90,7 +96,7 @@ def built(now, home):
     work.room(MEGABYTES)
     try:
         with work.folder("build-") as room, work.told(STEPS, ("read", "compile")) as steps:
-            module = read_module(room, steps.step("read"))
+            module = caught(room, parts()["clang"], steps.step("read"))
             made = compiled(module, room, "-O0", steps.step("compile"))
             os.makedirs(home, exist_ok=True)
             os.replace(module, os.path.join(home, "module.bc"))
@@ -104,58 +110,18 @@ def built(now, home):
     return None
 
 
-def read_module(room, step):
-    """The program as one module of LLVM bitcode, which `rt try` leaves on its way."""
-    below, module = os.path.join(room, "try"), os.path.join(room, "module.bc")
-    os.mkdir(below)
-    words = ["rt", "try", "--", "verify", "tick.ll", "tick.py"]
-    try:
-        child = work.start(words, room, cwd=PROGRAM_CRATE, env={**os.environ, "TMPDIR": below})
-    except FileNotFoundError:
-        raise Fault(kit.NO_RT) from None
-    with child:
-        while child.runs():
-            if not os.path.exists(module):
-                link_module(below, module)
-            elif goes_on(below):
-                break
-            step.tick()
-        ended = child.status
-    if os.path.exists(module):
-        return module
-    if ended is not None and b"\nrun=ended " in b"\n" + child.said():
-        raise Unlike("'rt try' left no module.bc where it was looked for")
-    raise child.fault("the program was not built", MEGABYTES)
-
-
-def link_module(below, module):
-    """Links the module, where it is there by now, to the name given."""
-    for folder, _, names in os.walk(below):
-        if "module.bc" in names:
-            try:
-                os.link(os.path.join(folder, "module.bc"), module)
-            except FileNotFoundError:
-                pass
-            return
-
-
-def goes_on(below):
-    """Whether the compiler that follows has begun, so that the module is whole."""
-    return any(name.endswith((".o", ".o.tmp")) for _, _, names in os.walk(below) for name in names)
-
-
 def compiled(module, room, level, step):
     """The program that the kit's compiler and linker make of a module, tried once."""
     found = parts()
     made, program = os.path.join(room, "hkv.o"), os.path.join(room, "hkv")
     words = [found["clang"], f"--target={TARGET}", f"--sysroot={found['toolchain']}", *COMPILE, level, module, "-o", made]
-    finish(words, room, step)
+    finish(words, step)
     words = [found["link"], "--target", TARGET, "--toolchain", found["toolchain"], "-o", program, made, found["os"], found["libc"]]
-    finish(words, room, step)
+    finish(words, step)
     os.chmod(program, os.stat(program).st_mode | stat.S_IXUSR | stat.S_IXGRP | stat.S_IXOTH)
     with open(os.path.join(PROGRAM_CRATE, "stdout"), "rb") as file:
         wanted = file.read()
-    tried = work.start([program, "verify", "tick.ll", "tick.py"], room, cwd=os.path.join(PROGRAM_CRATE, "data"))
+    tried = work.Child([program, "verify", "tick.ll", "tick.py"], cwd=os.path.join(PROGRAM_CRATE, "data"))
     with tried:
         while tried.runs():
             step.tick()
@@ -164,9 +130,9 @@ def compiled(module, room, level, step):
     return program
 
 
-def finish(words, room, step):
+def finish(words, step):
     """Runs a tool of the kit to its end."""
-    child = work.start(words, room)
+    child = work.Child(words)
     with child:
         while child.runs():
             step.tick()
@@ -177,4 +143,4 @@ def finish(words, room, step):
 def optimise_behind(name):
     """Starts the optimised build in the background, where its module still waits and nobody is at it."""
     if os.path.exists(kept("quick", name, "module.bc")) and not locks.is_held("optimise"):
-        work.detach([sys.executable, os.path.join(TOP, "launcher", "optimise.py"), name], kept("optimise.log"))
+        work.detach([*PYTHON, os.path.join(TOP, "launcher", "optimise.py"), name], kept("optimise.log"))

@@ -28,5 +28,5 @@ def cost():
     """How long proving took, and how much disk, in words."""
     facts, _ = measured()
     if not {"minutes", "processors", "gigabytes"} <= facts.keys():
-        return "it takes hours, and some ten GB of disk"
+        return "it takes hours, and several GB of disk"
     return f"{facts['minutes']} min on {facts['processors']} processors and {facts['gigabytes']} GB of disk when it was measured"

@@ -1,6 +1,4 @@
 """The first word decides: one of the launcher's own commands, each in a module of its own, or else the program answers."""
-import importlib
-
 from launcher.say import UNABLE, Fault, fault_of, say
 
 # A command, the module whose `run(words)` answers it and gives the exit status, and what --help says of it.
@@ -9,6 +7,7 @@ COMMANDS = {
     "selftest": ("launcher.selftest", "run every example and stored call of the repository, and compare"),
     "lower": ("launcher.lower", "bring what clang wrote into the profile, by LLVM's opt"),
     "--version": ("launcher.version", "which program runs, of which commit, and the kit's line"),
+    "--program": ("launcher.which", "the words that run the program, for scripts"),
 }
 
 
@@ -16,6 +15,8 @@ def run(words):
     """Answers a call; returns its exit status, where the program has not taken this process over."""
     try:
         if words and words[0] in COMMANDS:
+            import importlib
+
             return importlib.import_module(COMMANDS[words[0]][0]).run(words[1:])
         from launcher import program
 

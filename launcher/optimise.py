@@ -1,9 +1,10 @@
 """The background's own program, `optimise.py NAME`: what the compiler makes of the module kept under this name at -O2 takes the place
 of the first build, whole or not at all. Calls that run then keep the file that they have."""
+import contextlib
 import os
 import sys
 
-sys.path[0] = os.path.dirname(os.path.dirname(os.path.realpath(__file__)))
+sys.path.insert(0, os.path.dirname(os.path.dirname(os.path.realpath(__file__))))
 
 from launcher import build, locks, work
 from launcher.places import kept
@@ -22,9 +23,10 @@ def main(name):
             try:
                 made = build.compiled(module, room, "-O2", steps.step("optimise"))
                 os.replace(made, os.path.join(home, "hkv"))
-            except (Fault, build.Unlike) as why:
+            except (Fault, build.Unlike, OSError) as why:
                 say(f"the first build stays: {why}")
-            os.remove(module)
+            with contextlib.suppress(FileNotFoundError):
+                os.remove(module)
     return 0
 
 

@@ -2,7 +2,6 @@
 
 Both are kept by the name of the sources that they were made from. The quick one is built at the first call.
 """
-import functools
 import os
 import sys
 
@@ -11,12 +10,23 @@ from launcher.places import BUILT, kept
 from launcher.say import Fault, say
 
 
-@functools.cache
+_CHOSEN = []
+
+
 def chosen():
     """The words that run the program, and whether it is the proved one. Decided, and said, once a call."""
+    if not _CHOSEN:
+        _CHOSEN.append(choose())
+    return _CHOSEN[0]
+
+
+def choose():
+    """The same, decided now."""
     now = sources.current()
     proved = kept("proved", now.name, "hkv")
-    if is_runnable(proved) or takes_over(now):
+    if not is_runnable(proved):
+        proved = left_by_rt(now)
+    if proved:
         return (proved,), True
     if wants_proved():
         raise Fault(refusal())
@@ -56,10 +66,10 @@ def exec_program(words):
     os.execv(command[0], command)
 
 
-def takes_over(now):
-    """Whether a run of `rt` by hand left the proved program of these sources, which is kept then."""
+def left_by_rt(now):
+    """The proved program of these sources that a run of `rt` by hand left, which is kept then, or None."""
     if not is_runnable(BUILT):
-        return False
+        return None
     from launcher import adopt
 
     return adopt.adopted(now)

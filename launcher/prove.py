@@ -31,49 +31,48 @@ def run(words):
 
 def prove(now):
     """Proves and builds the program of these sources."""
-    work.sweep("prove-")
     work.room(megabytes_left())
     say(f"proving and building: {estimate.cost()}. What they say is kept in {kept('prove.log')}")
-    with work.folder("prove-") as room:
+    with work.stoppable():
         progress = Progress()
         try:
             for name in progress.order:
                 if not progress.is_done(name):
-                    library(name, room, progress)
-            build(room, progress)
+                    library(name, progress)
+            build(progress)
         finally:
             progress.line.clear()
     keep(now)
 
 
-def library(name, room, progress):
+def library(name, progress):
     """Proves one library over those below it."""
     progress.begin(name)
-    log = followed(["rt", "lib"], os.path.join(CRATES, name), room, progress, name)
+    followed(["rt", "lib"], os.path.join(CRATES, name), progress, name)
     if not os.path.exists(stamp(name)):
-        raise Fault(f"{name} was not proved, and 'rt lib' does not say why: {log}")
+        raise Fault(f"'rt lib' left no stamp of {name}: its sources changed while it was proved. Run this again")
     progress.end(name)
 
 
-def build(room, progress):
+def build(progress):
     """Proves and builds the program itself, by a run of it, which says its usage."""
     progress.begin("hkv")
-    followed(["rt", "run", "--"], PROGRAM_CRATE, room, progress, "hkv", lambda said: b"\nrt: running " in b"\n" + said)
+    followed(["rt", "run", "--"], PROGRAM_CRATE, progress, "hkv", lambda said: b"\nrt: running " in b"\n" + said)
 
 
-def followed(words, folder, room, progress, name, is_well=None):
+def followed(words, folder, progress, name, is_well=None):
     """Runs a command of the kit to its end, and says on which crate it is; what it said goes to the log."""
-    child = work.start(words, room, cwd=folder)
-    with child:
-        while child.runs():
-            progress.tick()
-    said = child.said()
-    with open(kept("prove.log"), "ab") as log:
-        log.write(b"== %s\n%s" % (name.encode(), said))
-    if not (is_well(said) if is_well else child.status == 0):
+    child = work.Child(words, cwd=folder)
+    try:
+        with child:
+            while child.runs():
+                progress.tick()
+    finally:
+        with open(kept("prove.log"), "ab") as log:
+            log.write(b"== %s\n%s" % (name.encode(), child.said()))
+    if not (is_well(child.said()) if is_well else child.status == 0):
         fault = child.fault(f"{name} was not proved. The last lines of {kept('prove.log')}:", megabytes_left())
         raise Fault(f"{fault}\n{ADVICE}")
-    return kept("prove.log")
 
 
 def stamp(name):
@@ -137,12 +136,18 @@ class Progress:
     def end(self, name):
         self.left.discard(name)
         self.spent += time.monotonic() - self.began
-        self.foreseen += self.expected.get(name, 0)
+        self.foreseen += self.foreseen_for(name)
         self.kept[name] = self.sums[name]
         part = kept(f"libraries.{os.getpid()}")
         with open(part, "w", encoding="utf-8") as file:
             json.dump(self.kept, file)
         os.replace(part, kept("libraries.json"))
+
+    def foreseen_for(self, name):
+        """The seconds that a crate took when it was measured; for one that was not, the mean of those that were."""
+        if name in self.expected or not self.expected:
+            return self.expected.get(name, 0)
+        return sum(self.expected.values()) / len(self.expected)
 
     def told(self):
         return f"proving {self.name}: {len(self.left)} of {len(self.sums)} crates left{self.minutes()}"
@@ -152,8 +157,8 @@ class Progress:
         if not self.expected:
             return ""
         pace = self.spent / self.foreseen if self.foreseen > 60 else 1
-        here = self.expected.get(self.name, 0)
-        others = sum(self.expected.get(it, 0) for it in self.left if it != self.name)
+        here = self.foreseen_for(self.name)
+        others = sum(self.foreseen_for(it) for it in self.left if it != self.name)
         seconds = (others + max(here - (time.monotonic() - self.began) / pace, 0)) * pace
         return f", about {max(round(seconds / 60), 1)} min"
 

@@ -12,11 +12,13 @@ import shutil
 import signal
 import subprocess
 import tempfile
+import threading
 import time
 
 from launcher import program, rows
 from launcher.places import CRATES, TOP
-from launcher.work import Line
+from launcher.say import Fault
+from launcher.work import Line, stoppable
 
 USAGE = "hkv selftest"
 SECONDS = 600
@@ -31,6 +33,8 @@ def run(words):
         return program.misused(USAGE)
     began = time.monotonic()
     command = program.argv()
+    if len(command) > 1:
+        raise Fault("the program runs by 'rt try' here, which takes minutes for each call: selftest makes hundreds of them")
     groups, left = stored()
     results = try_all(command, groups)
     faults = [line for result in results for line in result if line]
@@ -104,46 +108,78 @@ def examples():
 
 def try_all(command, groups):
     """What each group of calls came to, several at a time."""
-    line = Line(15)
-    with concurrent.futures.ThreadPoolExecutor(len(os.sched_getaffinity(0))) as pool:
-        waiting = [pool.submit(try_group, command, group) for group in groups]
-        for count, _ in enumerate(concurrent.futures.as_completed(waiting), 1):
-            line.show(lambda: f"{count} of {len(groups)} groups of stored calls")
-    line.clear()
+    line, running = Line(15), Running()
+    pool = concurrent.futures.ThreadPoolExecutor(len(os.sched_getaffinity(0)))
+    try:
+        with stoppable():
+            waiting = [pool.submit(try_group, running, command, group) for group in groups]
+            for count, _ in enumerate(concurrent.futures.as_completed(waiting), 1):
+                line.show(lambda: f"{count} of {len(groups)} groups of stored calls")
+    finally:
+        line.clear()
+        running.end()
+        pool.shutdown(cancel_futures=True)
     return [it.result() for it in waiting]
 
 
-def try_group(command, group):
+class Running:
+    """The calls that run now, so that an interrupt ends them."""
+
+    def __init__(self):
+        self.lock, self.processes, self.is_over = threading.Lock(), set(), False
+
+    def run(self, words, seconds, **how):
+        """Runs a call to its end; its status, or None where it took too long or all is over."""
+        with self.lock:
+            if self.is_over:
+                return None
+            process = subprocess.Popen(words, **how)
+            self.processes.add(process)
+        try:
+            return process.wait(timeout=seconds)
+        except subprocess.TimeoutExpired:
+            process.kill()
+            process.wait()
+            return None
+        finally:
+            with self.lock:
+                self.processes.discard(process)
+
+    def end(self):
+        with self.lock:
+            self.is_over = True
+            for process in self.processes:
+                process.kill()
+
+
+def try_group(running, command, group):
     """For each call None where it came out as expected, or else a line."""
     with tempfile.TemporaryDirectory(prefix="hkv-selftest-") as top:
         folder = os.path.join(top, "files")
         os.mkdir(folder)
-        return [try_call(command, call, folder, top) for call in group]
+        return [try_call(running, command, call, folder, top) for call in group]
 
 
-def try_call(command, call, folder, top):
+def try_call(running, command, call, folder, top):
     """Runs one call and compares."""
     where = folder if call.follows else lay(call.files, folder)
     shown = os.path.join(top, "shown")
-    try:
-        with open(shown, "wb") as sink:
-            done = subprocess.run(
-                [*command, *call.words],
-                cwd=where,
-                stdin=subprocess.DEVNULL,
-                stdout=sink,
-                stderr=subprocess.DEVNULL,
-                timeout=SECONDS,
-                preexec_fn=None if call.room is None else limited(call.room),
-            )
-        status = done.returncode
-    except subprocess.TimeoutExpired:
-        status = f"none within {SECONDS} s"
+    with open(shown, "wb") as sink:
+        status = running.run(
+            [*command, *call.words],
+            SECONDS,
+            cwd=where,
+            stdin=subprocess.DEVNULL,
+            stdout=sink,
+            stderr=subprocess.DEVNULL,
+            preexec_fn=None if call.room is None else limited(call.room),
+        )
     text = text_of(shown)
     if status == call.status and call.pattern.fullmatch(text):
         return None
     words = " ".join(call.words)
-    return f"FAILED {call.place} ({words}): expected {cut(call.expected)} and status {call.status}; got {cut(text)} and status {status}"
+    ended = f"no end within {SECONDS} s" if status is None else f"status {status}"
+    return f"FAILED {call.place} ({words}): expected {cut(call.expected)} and status {call.status}; got {cut(text)} and {ended}"
 
 
 def lay(files, folder):

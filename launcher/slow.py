@@ -8,7 +8,7 @@ import re
 import subprocess
 import sys
 
-sys.path[0] = os.path.dirname(os.path.dirname(os.path.realpath(__file__)))
+sys.path.insert(0, os.path.dirname(os.path.dirname(os.path.realpath(__file__))))
 
 from launcher.places import PROGRAM_CRATE
 from launcher.say import UNABLE, say
@@ -23,7 +23,11 @@ def main(words):
     """Runs the program on these words; its status."""
     flags, given, absolute = handed(words)
     command = ["rt", "try", "--seconds", SECONDS, *flags, "--", *given]
-    done = subprocess.run(command, cwd=PROGRAM_CRATE, stdin=subprocess.DEVNULL, stdout=subprocess.PIPE, stderr=subprocess.PIPE)
+    try:
+        done = subprocess.run(command, cwd=PROGRAM_CRATE, stdin=subprocess.DEVNULL, stdout=subprocess.PIPE, stderr=subprocess.PIPE)
+    except OSError as error:
+        say(f"'rt try' does not start: {error.strerror}")
+        return UNABLE
     ended = re.search(rb"(?m)^run=ended status=(\d+) ", done.stderr)
     if not ended:
         say("'rt try' gave no answer. The last that it said:")
@@ -39,17 +43,22 @@ def handed(words):
     """The flags that hand files to `rt try`, the program's words, and which absolute path stands for which of the caller's."""
     flags, given, absolute = [], [], {}
     for place, word in enumerate(words):
-        is_saved = place > 0 and words[place - 1] == "--cert"
-        is_file = place > 0 and os.path.isfile(word) and not os.path.isabs(word)
-        first = os.path.normpath(word).split("/")[0]
-        if is_saved or (is_file and (first in ("..", *TAKEN) or "=" in word or os.path.normpath(word) != word)):
+        if place and not os.path.isabs(word) and (words[place - 1] == "--cert" or goes_wrong(word)):
             given.append(os.path.abspath(word))
             absolute[given[-1]] = word
-        else:
-            given.append(word)
-            if is_file:
-                flags += ["--data", f"{word}={os.path.abspath(word)}"]
+            continue
+        given.append(word)
+        if place and os.path.isfile(word) and not os.path.isabs(word):
+            flags += ["--data", f"{word}={os.path.abspath(word)}"]
     return flags, given, absolute
+
+
+def goes_wrong(word):
+    """Whether `rt try` would take this name for another file, or for none, where it is handed as it stands."""
+    if not os.path.isfile(word):
+        return os.path.isfile(os.path.join(PROGRAM_CRATE, word))
+    plain = os.path.normpath(word)
+    return plain != word or "=" in word or plain.split("/")[0] in ("..", *TAKEN)
 
 
 def renamed(printed, absolute):

@@ -6,7 +6,6 @@ the content is. A call takes one look at each file's size and time of change; th
 That time is the one which the system sets at every change, and which no copying tool can set back.
 """
 import os
-from typing import NamedTuple
 
 from launcher import kit
 from launcher.places import CRATES, TOP, kept
@@ -17,12 +16,14 @@ PROVED_PARTS = (*PARTS, "proofs")
 TRIES = 5
 
 
-class Sources(NamedTuple):
-    """The sum of the sources' content, the kit's line, and the sum of both."""
+class Sources:
+    """The sum of the sources' content, the kit's line, and their name, which is a sum of both."""
 
-    sum: str
-    kit: str
-    name: str
+    def __init__(self, sum, kit, name):
+        self.sum, self.kit, self.name = sum, kit, name
+
+    def __eq__(self, other):
+        return self.name == other.name
 
 
 def listed():
@@ -131,7 +132,7 @@ def remember(text, made):
         os.makedirs(kept(), exist_ok=True)
         part = kept(f"sources.{os.getpid()}")
         with open(part, "w", encoding="utf-8") as file:
-            file.write("\n".join((*made, text)))
+            file.write("\n".join((made.sum, made.kit, made.name, text)))
         os.replace(part, kept("sources"))
     except OSError:
         pass

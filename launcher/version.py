@@ -20,7 +20,7 @@ def run(words):
 
 def which(now):
     """Which program answers."""
-    if program.is_runnable(kept("proved", now.name, "hkv")):
+    if program.is_runnable(kept("proved", now.name, "hkv")) or program.left_by_rt(now):
         return "the proved program"
     made = "" if program.is_runnable(kept("quick", now.name, "hkv")) else ", which the first call builds"
     refused = ", which HKV_PROVED refuses" if program.wants_proved() else ""

@@ -40,18 +40,28 @@ def full(megabytes, free=None):
 
 
 @contextlib.contextmanager
-def folder(prefix):
-    """A folder that is removed at the end, also where a signal ends the call."""
+def stoppable():
+    """Has signals that end the call go by way of every `finally`."""
     before = {it: signal.signal(it, stop) for it in STOPPERS}
-    made = tempfile.mkdtemp(prefix=prefix, dir=KEPT)
     try:
-        yield made
+        yield
     finally:
-        for it in STOPPERS:
-            signal.signal(it, signal.SIG_IGN)
-        shutil.rmtree(made, ignore_errors=True)
         for it, handler in before.items():
             signal.signal(it, handler)
+
+
+@contextlib.contextmanager
+def folder(prefix):
+    """A folder that is removed at the end, also where a signal ends the call."""
+    with stoppable():
+        made = tempfile.mkdtemp(prefix=prefix, dir=KEPT)
+        try:
+            yield made
+        finally:
+            for it in STOPPERS:
+                signal.signal(it, signal.SIG_IGN)
+            end_strays(made)
+            shutil.rmtree(made, ignore_errors=True)
 
 
 def stop(number, _):
@@ -63,6 +73,7 @@ def sweep(prefix):
     """Removes what killed calls left. The caller holds the lock under which such folders are made."""
     for name in os.listdir(KEPT):
         if name.startswith(prefix) and os.path.isdir(kept(name)):
+            end_strays(kept(name))
             shutil.rmtree(kept(name), ignore_errors=True)
 
 
@@ -85,28 +96,43 @@ def dies_with_parent():
         pass
 
 
-class Child:
-    """A tool in a process group of its own, with what it says in a file. Used as a context, it has ended when that is left."""
+def end_strays(folder):
+    """Ends the processes whose TMPDIR is in this folder: those that a tool has left, which was itself ended while it started them."""
+    mark = os.fsencode(f"TMPDIR={folder}{os.sep}")
+    for name in os.listdir("/proc") if os.path.isdir("/proc") else ():
+        if name.isdigit():
+            with contextlib.suppress(OSError):
+                with open(f"/proc/{name}/environ", "rb") as file:
+                    is_one = any(it.startswith(mark) for it in file.read().split(b"\0"))
+                if is_one:
+                    os.kill(int(name), signal.SIGKILL)
 
-    def __init__(self, words, log, **how):
-        self.log = log
-        self.status = None
-        with open(log, "wb") as said:
-            self.process = subprocess.Popen(
-                words,
-                stdin=subprocess.DEVNULL,
-                stdout=said,
-                stderr=subprocess.STDOUT,
-                start_new_session=True,
-                preexec_fn=dies_with_parent,
-                **how,
-            )
+
+class Child:
+    """A tool in a process group of its own. Used as a context, it has ended when that is left. What it says is kept in memory, since a
+    full disk would take no word of it."""
+
+    def __init__(self, words, **how):
+        self.status, self.text = None, b""
+        self.log = os.memfd_create("said")
+        self.process = subprocess.Popen(
+            words,
+            stdin=subprocess.DEVNULL,
+            stdout=self.log,
+            stderr=subprocess.STDOUT,
+            start_new_session=True,
+            preexec_fn=dies_with_parent,
+            **how,
+        )
 
     def __enter__(self):
         return self
 
     def __exit__(self, *_):
         self.end()
+        self.text = self.said()
+        os.close(self.log)
+        self.log = None
 
     def runs(self):
         """Whether it still runs, after a short wait."""
@@ -126,8 +152,10 @@ class Child:
                 return
 
     def said(self):
-        with open(self.log, "rb") as file:
-            return file.read()
+        """What it has said so far, or in all."""
+        if self.log is None:
+            return self.text
+        return os.pread(self.log, os.fstat(self.log).st_size, 0)
 
     def fault(self, what, megabytes):
         """The fault that its end comes to, with the last that it said."""
@@ -135,16 +163,9 @@ class Child:
         if FULL in text:
             return full(megabytes)
         last = [f"  {line}" for line in text.splitlines() if line.strip()][-5:]
-        if self.status is not None and self.status < 0:
-            last.append(f"it was ended by signal {-self.status}: where memory is short, end other programs first, and run this again")
+        if self.status is not None and (self.status < 0 or "error" not in text):
+            last.append("it was cut off, it seems: where memory is short, end other programs first, and run this again")
         return Fault("\n".join([what, *last]))
-
-
-def start(words, room, **how):
-    """Starts a tool, with a log in the folder given."""
-    handle, log = tempfile.mkstemp(prefix="said-", dir=room)
-    os.close(handle)
-    return Child(words, log, **how)
 
 
 def detach(words, log):
