@@ -142,12 +142,13 @@ bool inlineOnce(Function &F, FunctionAnalysisManager &FAM, Report &R) {
 }
 
 // Static functions that nothing calls any more.
-void dropUnused(Module &M, Report &R) {
+void dropUnused(Module &M, FunctionAnalysisManager &FAM, Report &R) {
   for (bool Again = true; Again;) {
     Again = false;
     for (Function &F : make_early_inc_range(M))
       if (F.hasLocalLinkage() && F.use_empty() && !F.isDeclaration()) {
         R.replaced(F, "a static function that is inlined at each call", "gone");
+        FAM.clear(F, F.getName());
         F.eraseFromParent();
         Again = true;
       }
@@ -175,7 +176,7 @@ bool promoteLocals(Module &M, ModuleAnalysisManager &MAM, Report &R) {
         R.replacedAt(Place, "a local in memory", "registers");
   }
   if (Inlined)
-    dropUnused(M, R);
+    dropUnused(M, FAM, R);
   return Changed;
 }
 

@@ -83,10 +83,8 @@ Instruction *behind(Value *V) {
 
 void fixSource(Value *V) {
   Instruction *Place = behind(V);
-  for (User *U : V->users())
-    if (isa<FreezeInst>(U))
-      return;
-  if (!Place)
+  bool IsFixed = V->hasOneUse() && isa<FreezeInst>(*V->user_begin());
+  if (IsFixed || !Place)
     return;
   auto *Fixed = new FreezeInst(V, V->getName() + ".fixed", Place);
   if (auto *I = dyn_cast<Instruction>(V))

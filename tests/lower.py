@@ -83,7 +83,7 @@ class Meanings(unittest.TestCase):
         return drawn
 
 
-OBJECTS = [("table", 112), ("smalls", 25), ("odds", 16), ("wides", 24), ("forties", 15), ("mosts", 21), ("words", 12), ("bytes", 48), ("numbers", 32)]
+OBJECTS = [("table", 96), ("smalls", 25), ("odds", 16), ("wides", 24), ("forties", 15), ("mosts", 21), ("words", 12), ("bytes", 48), ("numbers", 32)]
 CONSTRUCTS = os.path.join(native.HERE, "constructs.c")
 SANITIZED = ["-fsanitize=undefined", "-fno-sanitize=alignment", "-fsanitize-trap=all"]
 
@@ -102,7 +102,7 @@ class Constructs(unittest.TestCase):
         defined = native.answers(native.program(version, where, "sanitized", [CONSTRUCTS, *SANITIZED], handlers, OBJECTS), calls)
         before = native.answers(native.program(version, where, "before", [first], handlers, OBJECTS), calls)
         after = native.answers(native.program(version, where, "after", [second], handlers, OBJECTS), calls)
-        compared = set()
+        compared, run = set(), set()
         stateful = {handlers.index(h) for h in ("start", "choose")}  # over statics, which the driver does not set
         for call, d, b, a in zip(calls, defined, before, after):
             if d == "undefined":
@@ -111,7 +111,8 @@ class Constructs(unittest.TestCase):
             compared.add(name)
             self.assertEqual(d, b, (name, call, "the compiler and the sanitizer differ"))
             self.assertEqual(b, a, (name, call))
-            if call[4] == 0 and call[0] not in stateful:
+            if call[4] == 0 and call[0] not in stateful and call[0] not in run:
+                run.add(call[0])
                 self.assertEqual(a, native.hkv_answer(second, name, call[1:4], OBJECTS), (name, call, "hkv run"))
         self.assertEqual(compared, set(handlers), "each construct is compared somewhere")
 

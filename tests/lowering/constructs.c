@@ -51,6 +51,10 @@ u32 numbers[8] = {1, 2, 3, 4, 5, 6, 7, 8};
 static bool started;
 static u32 chosen = 7;
 
+/* The sizes that lower.py gives the driver. */
+_Static_assert(sizeof table == 96 && sizeof smalls == 25 && sizeof odds == 16 && sizeof wides == 24 && sizeof forties == 15, "sizes");
+_Static_assert(sizeof mosts == 21 && sizeof words == 12 && sizeof bytes == 48 && sizeof numbers == 32, "sizes");
+
 /* ---- copies */
 u64 copy_struct(u64 a, u64 b, u64 c) { table[a & 3] = table[b & 3]; return c; }
 u64 copy_out(u64 a, u64 b, u64 c) { struct entry e = table[a & 3]; e.b += (u32)b; e.d = (u16)c; table[(a + 1) & 3] = e; return e.c + e.b; }
