@@ -246,6 +246,14 @@ class Reports(unittest.TestCase):
         self.assertIn("This text was written by hkv lower", self.written())
 
 
+@unittest.skipUnless("16" in native.versions(), "the texts of examples/real are those of clang-16")
+class Examples(unittest.TestCase):
+    def test_real(self):
+        done = native.run([sys.executable, os.path.join(native.TOP, "examples", "real", "check.py")], env={**os.environ, "HKV": native.HKV})
+        self.assertEqual(done.returncode, 0, done.stdout + done.stderr)
+        self.assertIn("10 passed, 0 failed", done.stdout)
+
+
 if __name__ == "__main__":
     result = unittest.TextTestRunner(verbosity=1).run(unittest.defaultTestLoader.loadTestsFromModule(sys.modules[__name__]))
     bad = len(result.failures) + len(result.errors)
