@@ -64,9 +64,11 @@ class Meanings(unittest.TestCase):
         self.check_runs(second, rows, rng)
 
     def check_runs(self, text, rows, rng):
-        """The same by `hkv run`, where poison that is returned is found."""
+        """The same by `hkv run` at some widths, where poison that is returned is found."""
         for row in rows:
-            for numbers in [self.numbers(rng, row), (0, 0, 0)]:
+            if row.w not in (8, 33, 64):
+                continue
+            for numbers in [self.numbers(rng, row)] + [(0, 0, 0)] * (row.flag == 1):
                 meant = row.value(*numbers)
                 said = native.run([native.HKV, "run", text, row.name, *map(str, numbers)]).stdout.splitlines()[0]
                 if meant is None:
