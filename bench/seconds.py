@@ -6,7 +6,8 @@ Usage: bench/seconds.py [CHECKOUT] > crates.seconds     (by default this one)
 `rt` makes a crate's folder out/rlib when it begins with the crate, and writes there last when that is proved: the time between is the
 crate's. A crate that was taken from an earlier run took no time; it is left out with those that are not proved yet. The head says what was
 measured: the processors of the machine that this is called on, which should be the one that proved, and, where no crate is missing, the
-minutes from the first beginning to the last end, with all else that the run did, and the room that the folders take.
+minutes from the first beginning to the last end, with all else that the run did. The room is told of a checkout where `./hkv prove`
+or `rt lib` proved; what `rt ci` leaves is less.
 """
 import os
 import subprocess
@@ -58,6 +59,7 @@ def main(words):
     print(f"# processors: {os.cpu_count()}")
     if not missing:
         print(f"# minutes: {minutes:.0f}")
+    if not missing and all(os.path.isdir(os.path.join(checkout, "crates", name, "out", "incremental")) for name in names):
         print(f"# gigabytes: {size / 1e9:.1f}")
     for name, (began, ended) in found.items():
         print(f"{name}: {ended - began:.0f}")

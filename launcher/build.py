@@ -8,6 +8,7 @@ import errno
 import os
 import stat
 import sys
+import time
 
 from launcher import kit, locks, work
 from launcher.module import MEGABYTES, Unlike, caught
@@ -23,6 +24,8 @@ COMPILE = (
 ).split()
 TARGET = "x86_64-unknown-linux-gnu"
 KEEP = 2
+# After so long the background has begun, or never does.
+SECONDS_TO_BEGIN = 10
 # Python as it runs this, without what a machine adds to it.
 PYTHON = (sys.executable, "-IS")
 STEPS = {"read": "reading the sources", "compile": "compiling", "optimise": "compiling once more, optimised"}
@@ -144,3 +147,16 @@ def optimise_behind(name):
     """Starts the optimised build in the background, where its module still waits and nobody is at it."""
     if os.path.exists(kept("quick", name, "module.bc")) and not locks.is_held("optimise"):
         work.detach([*PYTHON, os.path.join(TOP, "launcher", "optimise.py"), name], kept("optimise.log"))
+
+
+def wait_for_optimised(home):
+    """Waits while the optimised program is under way, which is several times as fast as the first build, and says so."""
+    line, began = work.Line(work.SECONDS_BETWEEN_LINES), time.monotonic()
+    last = work.read_times().get("optimise")
+    took = f", {last:.0f} s last time" if last else ""
+    while os.path.exists(os.path.join(home, "module.bc")):
+        if time.monotonic() - began > SECONDS_TO_BEGIN and not locks.is_held("optimise"):
+            break
+        line.show(lambda: f"waiting for the optimised program: {time.monotonic() - began:.0f} s{took}")
+        time.sleep(0.2)
+    line.clear()

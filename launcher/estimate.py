@@ -25,8 +25,11 @@ def measured():
 
 
 def cost():
-    """How long proving took, and how much disk, in words."""
+    """How long proving takes, and how much disk, in words: as it was measured, or roughly where it was not."""
     facts, _ = measured()
-    if not {"minutes", "processors", "gigabytes"} <= facts.keys():
-        return "it takes hours, and several GB of disk"
-    return f"{facts['minutes']} min on {facts['processors']} processors and {facts['gigabytes']} GB of disk when it was measured"
+    time, room = "hours", "some ten GB of disk"
+    if {"minutes", "processors"} <= facts.keys():
+        time = f"{facts['minutes']} min on {facts['processors']} processors when it was measured"
+    if "gigabytes" in facts:
+        room = f"{facts['gigabytes']} GB of disk"
+    return f"it takes {time}, and {room}"

@@ -12,8 +12,8 @@ from launcher import kit, work
 from launcher.places import PROGRAM_CRATE
 from launcher.say import Fault
 
-# What a build takes at its most, measured: the module, the objects and the program, and what `rt try` writes beside them.
-MEGABYTES = 260
+# A build was seen to take 67 MB at its most: the module, the object and the program. `rt try` may write as much beside them before it ends.
+MEGABYTES = 140
 MODULE = "module.bc"
 WORDS = ("rt", "try", "--", "verify", "tick.ll", "tick.py")
 

@@ -15,7 +15,7 @@ import tempfile
 import threading
 import time
 
-from launcher import program, rows
+from launcher import build, program, rows
 from launcher.places import CRATES, TOP
 from launcher.say import Fault
 from launcher.work import Line, stoppable
@@ -31,10 +31,12 @@ LONGEST = 2000
 def run(words):
     if words:
         return program.misused(USAGE)
-    began = time.monotonic()
     command = program.argv()
     if len(command) > 1:
         raise Fault("the program runs by 'rt try' here, which takes minutes for each call: selftest makes hundreds of them")
+    if not program.is_proved():
+        build.wait_for_optimised(os.path.dirname(command[0]))
+    began = time.monotonic()
     groups, left = stored()
     results = try_all(command, groups)
     faults = [line for result in results for line in result if line]
