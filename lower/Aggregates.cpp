@@ -75,7 +75,8 @@ private:
     IRBuilder<> B(&Store);
     for (const Path &At : All) {
       uint64_t Offset = offsetOf(Whole->getType(), At);
-      B.CreateAlignedStore(B.CreateExtractValue(Whole, At), byteAt(B, Store.getPointerOperand(), Offset), commonAlignment(Store.getAlign(), Offset));
+      Value *Part = B.CreateExtractValue(Whole, At);
+      B.CreateAlignedStore(Part, byteAt(B, Store.getPointerOperand(), Offset), commonAlignment(Store.getAlign(), Offset));
     }
     Store.eraseFromParent();
   }

@@ -152,7 +152,8 @@ private:
     Value *New = Store.getValueOperand();
     for (size_t K = 0; K < A.Places.size(); ++K) {
       Value *Old = B.CreateAlignedLoad(New->getType(), place(B, A.Places[K]), Align(1));
-      B.CreateAlignedStore(B.CreateSelect(Is[K], New, Old), place(B, A.Places[K]), Align(1));
+      Value *Next = B.CreateSelect(Is[K], New, Old);
+      B.CreateAlignedStore(Next, place(B, A.Places[K]), Align(1));
     }
     Store.eraseFromParent();
   }

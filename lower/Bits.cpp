@@ -25,7 +25,8 @@ Value *shiftBy(IRBuilder<> &B, Value *High, Value *Low, uint64_t Left, unsigned 
   if (Left == 0)
     return High;
   Type *T = High->getType();
-  return B.CreateOr(B.CreateShl(High, number(T, Left)), B.CreateLShr(Low, number(T, Width - Left)));
+  Value *Top = B.CreateShl(High, number(T, Left));
+  return B.CreateOr(Top, B.CreateLShr(Low, number(T, Width - Left)));
 }
 
 // The amount below the width, and Width - 1 less the amount.
@@ -50,9 +51,9 @@ Value *expandFunnel(IRBuilder<> &B, IntrinsicInst &I, bool Left) {
   By = I.getArgOperand(2);
   Value *Amount = amount(B, By, Width), *Rest = B.CreateSub(number(T, Width - 1), Amount);
   // The other word moves by the width less the amount, in two steps, as the amount may be 0.
-  if (Left)
-    return B.CreateOr(B.CreateShl(High, Amount), B.CreateLShr(B.CreateLShr(Low, number(T, 1)), Rest));
-  return B.CreateOr(B.CreateShl(B.CreateShl(High, number(T, 1)), Rest), B.CreateLShr(Low, Amount));
+  Value *Top = Left ? B.CreateShl(High, Amount) : B.CreateShl(B.CreateShl(High, number(T, 1)), Rest);
+  Value *Bottom = Left ? B.CreateLShr(B.CreateLShr(Low, number(T, 1)), Rest) : B.CreateLShr(Low, Amount);
+  return B.CreateOr(Top, Bottom);
 }
 
 // ---- orders
@@ -75,7 +76,8 @@ Value *reverseWhole(IRBuilder<> &B, Value *X) {
   Type *T = X->getType();
   for (unsigned Bits = 1; Bits < T->getIntegerBitWidth(); Bits *= 2) {
     Value *Mask = lowGroups(T, Bits), *By = number(T, Bits);
-    X = B.CreateOr(B.CreateShl(B.CreateAnd(X, Mask), By), B.CreateAnd(B.CreateLShr(X, By), Mask));
+    Value *Up = B.CreateShl(B.CreateAnd(X, Mask), By);
+    X = B.CreateOr(Up, B.CreateAnd(B.CreateLShr(X, By), Mask));
   }
   return X;
 }
@@ -97,7 +99,8 @@ Value *expandPopulation(IRBuilder<> &B, Value *X) {
   X = B.CreateZExtOrTrunc(X, Whole);
   for (unsigned Bits = 1; Bits < Whole->getIntegerBitWidth(); Bits *= 2) {
     Value *Mask = lowGroups(Whole, Bits);
-    X = B.CreateAdd(B.CreateAnd(X, Mask), B.CreateAnd(B.CreateLShr(X, number(Whole, Bits)), Mask));
+    Value *Low = B.CreateAnd(X, Mask);
+    X = B.CreateAdd(Low, B.CreateAnd(B.CreateLShr(X, number(Whole, Bits)), Mask));
   }
   return B.CreateZExtOrTrunc(X, T);
 }

@@ -29,7 +29,8 @@ Value *unsignedSum(IRBuilder<> &B, Value *A, Value *C) {
 }
 
 Value *unsignedDifference(IRBuilder<> &B, Value *A, Value *C) {
-  return B.CreateSelect(B.CreateICmpULT(A, C), Constant::getNullValue(A->getType()), B.CreateSub(A, C));
+  Value *Below = B.CreateICmpULT(A, C);
+  return B.CreateSelect(Below, Constant::getNullValue(A->getType()), B.CreateSub(A, C));
 }
 
 // Shifted back it is another number: a bit was lost. An amount of the width or more is poison, as before.
@@ -43,7 +44,8 @@ Value *shifted(IRBuilder<> &B, bool Signed, Value *A, Value *C) {
 Value *compared(IRBuilder<> &B, bool Signed, Value *A, Value *C, Type *T) {
   Value *Greater = Signed ? B.CreateICmpSGT(A, C) : B.CreateICmpUGT(A, C);
   Value *Less = Signed ? B.CreateICmpSLT(A, C) : B.CreateICmpULT(A, C);
-  return B.CreateSub(B.CreateZExt(Greater, T), B.CreateZExt(Less, T));
+  Value *One = B.CreateZExt(Greater, T);
+  return B.CreateSub(One, B.CreateZExt(Less, T));
 }
 
 Value *expandSaturated(IntrinsicInst &I) {

@@ -253,7 +253,8 @@ private:
     Words Parts = wordsOf(B, Store.getValueOperand());
     for (unsigned K = 0; K < Parts.size(); ++K) {
       Type *T = B.getIntNTy(std::min(64u, Width - 64 * K));
-      B.CreateAlignedStore(B.CreateTrunc(Parts[K], T), byteAt(B, Store.getPointerOperand(), 8 * K), commonAlignment(Store.getAlign(), 8 * K));
+      Value *Part = B.CreateTrunc(Parts[K], T);
+      B.CreateAlignedStore(Part, byteAt(B, Store.getPointerOperand(), 8 * K), commonAlignment(Store.getAlign(), 8 * K));
     }
     Store.eraseFromParent();
   }

@@ -140,7 +140,7 @@ u64 swapped_lanes(u64 a, u64 b, u64 c) { u32 x = numbers[0], y = numbers[1], z =
 
 /* ---- what is said to the optimizer alone */
 u64 likely(u64 a, u64 b, u64 c) { if (__builtin_expect(a > b, 1)) return a; return __builtin_expect_with_probability(b, 3, 0.9) == 3 ? c : b; }
-u64 noted(u64 a, u64 b, u64 c) { u64 kept __attribute__((annotate("a note"))) = a + b; __builtin_assume(c < 100); __builtin_prefetch(&numbers[a & 7]); return kept * c; }
+u64 noted(u64 a, u64 b, u64 c) { u64 kept __attribute__((annotate("a note"))) = a + b; __builtin_assume((c & 7) < 100); __builtin_prefetch(&numbers[a & 7]); return kept * c; }
 APART void apart(u32 *restrict to, const u32 *restrict from) { to[0] = from[0] + 1; to[1] = from[0] + 2; }
 u64 restricted(u64 a, u64 b, u64 c) { apart(&numbers[2 * (a & 1)], &numbers[4 + 2 * (b & 1)]); return c; }
 u64 hidden(u64 a, u64 b, u64 c) { __asm__("" : "+r"(a)); return a * b + c; }
