@@ -78,12 +78,7 @@ SmallSetVector<CallBase *, 16> callsToInline(Function &F) {
   return Calls;
 }
 
-bool promote(Function &F, FunctionAnalysisManager &FAM) {
-  if (memoryLocals(F).empty())
-    return false;
-  FAM.invalidate(F, sroaPass().run(F, FAM));
-  return true;
-}
+void promote(Function &F, FunctionAnalysisManager &FAM) { FAM.invalidate(F, sroaPass().run(F, FAM)); }
 
 // All loads and stores of integers through the address, where nothing else is done with it and each step is constant.
 bool plainAccesses(Value &Address, SmallVectorImpl<Instruction *> &Found) {
@@ -164,8 +159,10 @@ bool promoteLocals(Module &M, ModuleAnalysisManager &MAM, Report &R) {
     SmallVector<std::pair<WeakVH, std::string>, 16> Before;
     for (AllocaInst *A : memoryLocals(F))
       Before.push_back({A, R.place(*A)});
-    bool Here = promote(F, FAM);
-    while (!F.isDeclaration() && inlineOnce(F, FAM, R)) {
+    bool Here = !Before.empty();
+    if (Here)
+      promote(F, FAM);
+    while (!F.isDeclaration() && inlineOnce(F, FAM, R)) { // what was handed on may be a slot now, but read before it is set
       Inlined = Here = true;
       promote(F, FAM);
     }
