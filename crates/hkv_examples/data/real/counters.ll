@@ -24,9 +24,9 @@ define dso_local i32 @charge(i32 noundef %0, i32 noundef %1) local_unnamed_addr 
   %11 = getelementptr inbounds [8 x i32], ptr @quota, i64 0, i64 %5
   %12 = load i32, ptr %11, align 4, !tbaa !5
   %.fixed1 = freeze i32 %12
-  %13 = sub i32 %.fixed1, %1
-  %14 = icmp ult i32 %.fixed1, %1
-  %15 = select i1 %14, i32 0, i32 %13
+  %13 = icmp ult i32 %.fixed1, %1
+  %14 = sub i32 %.fixed1, %1
+  %15 = select i1 %13, i32 0, i32 %14
   store i32 %15, ptr %11, align 4, !tbaa !5
   br label %16
 

@@ -9,43 +9,41 @@ target triple = "x86_64-pc-linux-gnu"
 
 ; Function Attrs: mustprogress nofree nosync nounwind willreturn memory(readwrite, argmem: none, inaccessiblemem: none)
 define dso_local i32 @clip(i32 noundef %0, i32 noundef %1, i32 noundef %2) local_unnamed_addr #0 {
-  %4 = alloca i32, align 4
-  %5 = icmp ugt i32 %0, 7
-  br i1 %5, label %25, label %6
+  %4 = icmp ugt i32 %0, 7
+  br i1 %4, label %23, label %5
 
-6:                                                ; preds = %3
-  %7 = zext i32 %0 to i64
-  %8 = getelementptr inbounds [8 x %struct.range], ptr @windows, i64 0, i64 %7
-  %9 = load i64, ptr %8, align 8
-  %10 = zext i32 %2 to i64
-  %11 = shl nuw i64 %10, 32
-  %12 = zext i32 %1 to i64
-  %13 = or i64 %11, %12
-  %14 = tail call fastcc i64 @common(i64 %9, i64 %13) #3
-  %15 = trunc i64 %14 to i32
-  %16 = lshr i64 %14, 32
-  %17 = trunc i64 %16 to i32
-  %18 = icmp ugt i32 %17, %15
-  br i1 %18, label %19, label %measure.exit
+5:                                                ; preds = %3
+  %6 = zext i32 %0 to i64
+  %7 = getelementptr inbounds [8 x %struct.range], ptr @windows, i64 0, i64 %6
+  %8 = load i64, ptr %7, align 8
+  %9 = zext i32 %2 to i64
+  %10 = shl nuw i64 %9, 32
+  %11 = zext i32 %1 to i64
+  %12 = or i64 %10, %11
+  %13 = tail call fastcc i64 @common(i64 %8, i64 %12) #3
+  %14 = trunc i64 %13 to i32
+  %15 = lshr i64 %13, 32
+  %16 = trunc i64 %15 to i32
+  %17 = icmp ugt i32 %16, %14
+  br i1 %17, label %18, label %measure.exit
 
-19:                                               ; preds = %6
-  %20 = sub i32 %17, %15
-  store i32 %20, ptr %4, align 4, !tbaa !5
+18:                                               ; preds = %5
+  %19 = sub i32 %16, %14
   br label %measure.exit
 
-measure.exit:                                     ; preds = %6, %19
-  %21 = phi i32 [ 1, %19 ], [ 0, %6 ]
-  %22 = icmp eq i32 %21, 0
-  br i1 %22, label %25, label %23
+measure.exit:                                     ; preds = %5, %18
+  %.0 = phi i32 [ %19, %18 ], [ 0, %5 ]
+  %20 = phi i32 [ 1, %18 ], [ 0, %5 ]
+  %21 = icmp eq i32 %20, 0
+  br i1 %21, label %23, label %22
 
-23:                                               ; preds = %measure.exit
-  store i64 %14, ptr %8, align 8, !tbaa.struct !9
-  %24 = load i32, ptr %4, align 4, !tbaa !5
-  br label %25
+22:                                               ; preds = %measure.exit
+  store i64 %13, ptr %7, align 8, !tbaa.struct !5
+  br label %23
 
-25:                                               ; preds = %23, %measure.exit, %3
-  %26 = phi i32 [ 0, %3 ], [ %24, %23 ], [ 0, %measure.exit ]
-  ret i32 %26
+23:                                               ; preds = %22, %measure.exit, %3
+  %24 = phi i32 [ 0, %3 ], [ %.0, %22 ], [ 0, %measure.exit ]
+  ret i32 %24
 }
 
 ; Function Attrs: mustprogress nofree noinline nosync nounwind willreturn memory(none)
@@ -85,8 +83,8 @@ attributes #3 = { nobuiltin "no-builtins" }
 !2 = !{i32 7, !"PIE Level", i32 2}
 !3 = !{!"Debian clang version 16.0.6 (15~deb12u1)"}
 !4 = !{!"This text was written by hkv lower, LLVM 16.0.6. It is the text to compile and to link."}
-!5 = !{!6, !6, i64 0}
-!6 = !{!"int", !7, i64 0}
-!7 = !{!"omnipotent char", !8, i64 0}
-!8 = !{!"Simple C/C++ TBAA"}
-!9 = !{i64 0, i64 4, !5, i64 4, i64 4, !5}
+!5 = !{i64 0, i64 4, !6, i64 4, i64 4, !6}
+!6 = !{!7, !7, i64 0}
+!7 = !{!"int", !8, i64 0}
+!8 = !{!"omnipotent char", !9, i64 0}
+!9 = !{!"Simple C/C++ TBAA"}
