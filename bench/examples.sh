@@ -31,7 +31,7 @@ for size in '8 16' '16 32' '64 128'; do
   # shellcheck disable=SC2086 # two numbers
   "$root/examples/sized.sh" $size "$work/sized"
   for handler in create exit switch open close dup transfer set_limit get_limit; do
-    python3 "$root/examples/only.py" "$work/sized/files.py" "sys_$handler" >"$work/one.py"
+    python3 "$root/launcher/transitions.py" "$work/sized/files.py" "sys_$handler" >"$work/one.py"
     # shellcheck disable=SC2086
     run "$(printf '%s processes, %s files, sys_%s' $size "$handler")" "$work/sized/files.ll" "$work/one.py"
   done

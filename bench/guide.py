@@ -1,7 +1,7 @@
 """guide.py [--write]: runs the command lines of docs/GUIDE.md, and compares what they show with what the guide says.
 
 They stand behind `$ ` in the blocks marked `console`, and run in the order of the text, in a copy of examples/, with the
-launcher on the path, or with the program that the environment's HKV names as hkv. With --write the guide gets what they
+launcher on the path, which runs the program that the environment's HKV names, if it names one. With --write the guide gets what they
 show, but for the line that the launcher puts at each call of the quick program. It needs clang-16.
 """
 import os
@@ -13,7 +13,8 @@ import tempfile
 
 ROOT = os.path.dirname(os.path.dirname(os.path.abspath(__file__)))
 GUIDE = os.path.join(ROOT, 'docs', 'GUIDE.md')
-PROGRAM = os.environ.get('HKV', os.path.join(ROOT, 'hkv'))
+LAUNCHER = os.path.join(ROOT, 'hkv')
+STAND_IN = f"#!/bin/sh\nexec python3 '{os.path.join(ROOT, 'tests', 'launched.py')}' \"$@\"\n"
 QUICK = 'hkv: this is the quick program'
 BLOCK = re.compile(r'^```console\n(.*?)^```\n', re.M | re.S)
 
@@ -26,6 +27,16 @@ def shown(command, folder, path):
     return ''.join(line for line in ran.stdout.splitlines(True) if not line.startswith((QUICK, 'hkv: building the pass')))
 
 
+def put_launcher(place):
+    """Puts the command hkv at a place: the launcher, or one that runs the program of the environment's HKV."""
+    if not os.environ.get('HKV'):
+        os.symlink(LAUNCHER, place)
+        return
+    with open(place, 'w') as file:
+        file.write(STAND_IN)
+    os.chmod(place, 0o755)
+
+
 def main():
     with open(GUIDE) as file:
         text = file.read()
@@ -33,7 +44,7 @@ def main():
         folder, path = os.path.join(work, 'try'), os.path.join(work, 'path')
         shutil.copytree(os.path.join(ROOT, 'examples'), folder)
         os.mkdir(path)
-        os.symlink(PROGRAM, os.path.join(path, 'hkv'))
+        put_launcher(os.path.join(path, 'hkv'))
 
         def run(block):
             commands = [line[2:] for line in block[1].splitlines() if line.startswith('$ ')]

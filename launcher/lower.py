@@ -10,13 +10,27 @@ import shutil
 import subprocess
 import sys
 
+from launcher import program
 from launcher.places import TOP, kept
 from launcher.say import Fault, say
 
-USAGE = "usage: hkv lower KERNEL.ll [-o OUT.ll] [--unroll N] [--single-processor] [--llvm VERSION]"
+USAGE = "hkv lower KERNEL.ll [-o OUT.ll] [--unroll N] [--single-processor] [--llvm VERSION]"
+HELP = """\
+Writes the kernel text in which what the profile lacks is replaced by what it has, on standard output or into OUT.ll, and says each
+replacement on standard error, and what is left with its reason. What is written is what is to be verified, compiled and linked.
+
+  -o OUT.ll             write the text into this file
+  --unroll N            make a loop of at most N rounds so many copies of its body
+  --single-processor    make volatile and atomic accesses plain, under the premise that one processor runs the handlers and nothing
+                        interrupts them; the premise is said, and stands in the text
+  --llvm VERSION        use LLVM 15, 16 or 19; without it the one that wrote the text, or else one that is there
+
+Statuses: 0 nothing known is left; 3 something is, and the text is written, or KERNEL.ll is no text that LLVM reads, and nothing is; 4 words;
+5 KERNEL.ll could not be read; 6 OUT.ll could not be written; 70 the pass could not be built or run.
+"""
 VERSIONS = ("16", "19", "15")  # that the pass builds against, the first that is there being taken
 SOURCES = os.path.join(TOP, "lower")
-READ, USED_WRONGLY, UNREADABLE, UNWRITABLE = 3, 4, 5, 6
+READ, UNREADABLE, UNWRITABLE = 3, 5, 6
 
 
 class Usage(Exception):
@@ -64,11 +78,14 @@ class Words:
 
 
 def run(words):
+    if words[:1] and words[0] in ("--help", "-h"):
+        from launcher import help as pages
+
+        return pages.run(["lower"])
     try:
         asked = Words(words)
     except Usage:
-        print(USAGE, file=sys.stderr)
-        return USED_WRONGLY
+        return program.misused(USAGE)
     try:
         with open(asked.kernel, encoding="utf-8", errors="replace") as file:
             text = file.read()

@@ -3,9 +3,15 @@ from launcher.say import UNABLE, Fault, fault_of, say
 
 # A command, the module whose `run(words)` answers it and gives the exit status, and what --help says of it.
 COMMANDS = {
+    "explain": ("launcher.explain", "say each rejection in the words of the source, as text, JSON or a page"),
+    "handlers": ("launcher.handlers", "print the handlers of a specification that is read, in order"),
+    "premises": ("launcher.premises", "print what a verdict of two texts rests on"),
+    "lower": ("launcher.lower", "bring what clang wrote into the profile, by LLVM's opt"),
     "prove": ("launcher.prove", "prove everything, and build the program that everything is claimed of"),
     "selftest": ("launcher.selftest", "run every example and stored call of the repository, and compare"),
-    "lower": ("launcher.lower", "bring what clang wrote into the profile, by LLVM's opt"),
+    "--help": ("launcher.help", "this page, or with a command its own"),
+    "-h": ("launcher.help", ""),
+    "help": ("launcher.help", ""),
     "--version": ("launcher.version", "which program runs, of which commit, and the kit's line"),
     "--program": ("launcher.which", "the words that run the program, for scripts"),
 }
@@ -18,9 +24,9 @@ def run(words):
             import importlib
 
             return importlib.import_module(COMMANDS[words[0]][0]).run(words[1:])
-        from launcher import program
+        from launcher import options
 
-        return program.exec_program(words)
+        return options.run(words)
     except Fault as fault:
         return unable(fault)
     except OSError as error:

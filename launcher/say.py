@@ -1,6 +1,6 @@
 """What the launcher says, which goes to standard error alone, and the fault that ends a call with status 70."""
 import errno
-import sys
+import os
 
 UNABLE = 70
 
@@ -12,7 +12,7 @@ class Fault(Exception):
 def say(text):
     """One line on standard error; a lost standard error is no reason to stop."""
     try:
-        print(f"hkv: {text}", file=sys.stderr, flush=True)
+        os.write(2, f"hkv: {text}\n".encode(errors="backslashreplace"))
     except OSError:
         pass
 
