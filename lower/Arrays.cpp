@@ -173,7 +173,9 @@ bool splitArrays(Function &F, FunctionAnalysisManager &FAM, Report &R) {
     if (auto *Local = dyn_cast<AllocaInst>(&I))
       if (Local->getAllocatedType()->isAggregateType())
         Locals.push_back(Local);
-  bool Changed = false;
+  if (Locals.empty())
+    return false;
+  bool Changed = splitVectors(F, FAM, R); // so that each element is loaded and stored by itself
   for (AllocaInst *Local : Locals)
     Changed |= ArraySplitter(*Local, F.getParent()->getDataLayout(), R).run();
   if (Changed)
