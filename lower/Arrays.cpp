@@ -87,6 +87,8 @@ private:
       Sum = B.CreateAdd(Sum, B.CreateMul(B.CreateSExtOrTrunc(Index, B.getInt64Ty()), ConstantInt::get(B.getInt64Ty(), Scale)));
       Stride = std::gcd(Stride, Scale.abs().getZExtValue());
     }
+    if (!Step.isInBounds()) // its sum may go round at 2^64
+      Stride = std::gcd(Stride, uint64_t(1) << 62);
     return collect(Step, Sum, Stride);
   }
 
@@ -113,7 +115,7 @@ private:
     if (Stride == 0)
       return 0;
     if (auto *C = dyn_cast<ConstantInt>(Sum))
-      return C->getValue().urem(Stride);
+      return uint64_t(C->getValue().srem(int64_t(Stride)) + int64_t(Stride)) % Stride; // it may be below zero
     auto *Add = dyn_cast<BinaryOperator>(Sum);
     if (Add && Add->getOpcode() == Instruction::Add)
       return (firstPlace(Add->getOperand(0), Stride) + firstPlace(Add->getOperand(1), Stride)) % Stride;

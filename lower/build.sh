@@ -8,4 +8,4 @@ cd "$(dirname "$0")"
 config=llvm-config-$version
 for file in *.cpp; do echo "#include \"$file\""; done |
   # shellcheck disable=SC2046 # words of llvm-config
-  "${CXX:-c++}" -O1 -fno-rtti -fPIC -shared -w -I. $("$config" --cxxflags) -std=c++17 -x c++ - -o "$out"
+  "${CXX:-c++}" -O0 -fno-rtti -fPIC -shared -w -I. $("$config" --cxxflags) -std=c++17 -x c++ - -o "$out"

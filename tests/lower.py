@@ -251,7 +251,7 @@ class Reports(unittest.TestCase):
 @unittest.skipUnless("16" in native.versions(), "the texts of examples/real are those of clang-16")
 class Examples(unittest.TestCase):
     def test_real(self):
-        done = native.run([sys.executable, os.path.join(native.TOP, "examples", "real", "check.py")], env={**os.environ, "HKV": native.HKV})
+        done = native.run([sys.executable, os.path.join(native.TOP, "examples", "real", "check.py")], timeout=7200, env={**os.environ, "HKV": native.HKV})
         self.assertEqual(done.returncode, 0, done.stdout + done.stderr)
         self.assertIn("10 passed, 0 failed", done.stdout)
 

@@ -110,6 +110,9 @@ struct triple {
     u32 x;
     u64 y, z;
 };
+struct trio {
+    u32 x, y, z;
+};
 APART struct pair sorted(u64 a, u64 b) { return a < b ? (struct pair){a, b} : (struct pair){b, a}; }
 APART struct triple turned(struct triple t, u64 by) { return by & 1 ? (struct triple){(u32)t.y, t.z, t.x} : (struct triple){t.x + 1, t.z, t.y}; }
 APART int find(u32 number, u32 *place) {
@@ -127,6 +130,7 @@ u64 local_array(u64 a, u64 b, u64 c) { u32 local[4] = {(u32)a, 20, 30, (u32)c}; 
 u64 local_wide(u64 a, u64 b, u64 c) { u64 local[4] = {a, b, c, 7}; fill_in(local, a); fill_in(local, b); return local[0] + local[1] * 3 + local[2] * 5 + local[c & 3]; }
 u64 local_structs(u64 a, u64 b, u64 c) { struct pair local[3] = {{a, b}, {b, c}, {c, a}}; local[a % 3].second += 1; return local[b % 3].first - local[c % 3].second; }
 u64 local_bytes(u64 a, u64 b, u64 c) { u8 local[8]; memcpy(local, &a, 8); local[b & 7] = (u8)c; memcpy(&a, local, 8); return a; }
+u64 step_back(u64 a, u64 b, u64 c) { struct trio local[4] = {{(u32)a, 2, 3}, {4, (u32)b, 6}, {7, 8, (u32)c}, {10, 11, 12}}, *p = &local[1 + a % 3]; p[-1].z ^= (u32)b; return p[-1].y + p->z * 3u + local[c & 3].z; }
 u64 unread(u64 a, u64 b, u64 c) { u64 never; if (c & 1) never = b; return first_of(a, c & 1 ? never : a); }
 u64 looked_up(u64 a, u64 b, u64 c) { static const struct triple known[3] = {{1, 2, 3}, {4, 5, 6}, {7, 8, 9}}; struct triple t = known[a % 3]; return t.y * b + t.z * c + t.x; }
 

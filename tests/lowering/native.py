@@ -18,8 +18,8 @@ def versions():
     return [v for v in named if shutil.which(f"clang-{v}") and shutil.which(f"llvm-config-{v}")]
 
 
-def run(words, **more):
-    return subprocess.run(words, capture_output=True, text=True, timeout=600, **more)
+def run(words, timeout=600, **more):
+    return subprocess.run(words, capture_output=True, text=True, timeout=timeout, **more)
 
 
 def must(words, **more):
