@@ -24,7 +24,7 @@ def shown(command, folder, path):
     where = {**os.environ, 'PATH': path + os.pathsep + os.environ['PATH']}
     ran = subprocess.run(['bash', '-c', command], cwd=folder, env=where, stdin=subprocess.DEVNULL,
                          stdout=subprocess.PIPE, stderr=subprocess.STDOUT, text=True)
-    return ''.join(line for line in ran.stdout.splitlines(True) if not line.startswith(QUICK))
+    return ''.join(line for line in ran.stdout.splitlines(True) if not line.startswith((QUICK, 'hkv: building the pass')))
 
 
 def put_launcher(place):

@@ -6,6 +6,7 @@ COMMANDS = {
     "explain": ("launcher.explain", "say each rejection in the words of the source, as text, JSON or a page"),
     "handlers": ("launcher.handlers", "print the handlers of a specification that is read, in order"),
     "premises": ("launcher.premises", "print what a verdict of two texts rests on"),
+    "lower": ("launcher.lower", "bring what clang wrote into the profile, by LLVM's opt"),
     "prove": ("launcher.prove", "prove everything, and build the program that everything is claimed of"),
     "selftest": ("launcher.selftest", "run every example and stored call of the repository, and compare"),
     "--help": ("launcher.help", "this page, or with a command its own"),
