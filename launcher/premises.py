@@ -253,4 +253,16 @@ def of_source(items):
         told + ": read as little endian, pointers and integers of 64 bits aligned to 8 bytes",
         f"target triple: {texts.get('target triple', 'none is given')}, not looked at",
         f"source file: {texts.get('source_filename', 'none is given')}: that the text was made of it is not looked at",
+        *of_lowering(items),
     ]
+
+
+def of_lowering(items):
+    """What `hkv lower` left in a text that it wrote: nothing in any other."""
+    texts = {item.text.split(" = ", 1)[0]: item.text for item in items if item.text.startswith("!")}
+    named = re.match(r"!hkv\.lowered = !\{(.*)\}", texts.get("!hkv.lowered", ""))
+    if not named:
+        return []
+    said = [re.search(r'!"([^"]*)"', texts.get(name.strip(), "")) for name in named[1].split(",")]
+    lines = ["lowered: " + found[1] for found in said if found]
+    return [*lines, "  who links the text that it was made of, and not this one, relies on the pass"]

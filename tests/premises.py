@@ -161,6 +161,16 @@ class Premises(unittest.TestCase):
         said = launched(["premises", kernel])
         self.assertEqual((said.stdout, said.stderr, said.returncode), (b"", b"usage: hkv premises KERNEL SPEC\n", 4))
 
+    def test_lowered_text(self):
+        left = '!hkv.lowered = !{!7, !8}\n!7 = !{!"This text was written."}\n!8 = !{!"--unroll 4"}\n'
+        spec = self.write("k.py", SPEC)
+        said = launched(["premises", self.write("k.ll", KERNEL + left), spec]).stdout.decode()
+        self.assertTrue(said.endswith(
+            "lowered: This text was written.\nlowered: --unroll 4\n"
+            "  who links the text that it was made of, and not this one, relies on the pass\n"
+        ))
+        self.assertNotIn("lowered", launched(["premises", self.write("k.ll", KERNEL), spec]).stdout.decode())
+
     def test_functions_that_nothing_is_said_of(self):
         rows = (
             ("define void @f() {\n", [], [(b"f", 1)]),
