@@ -99,13 +99,13 @@ module _ (memory : List (List ℕ)) (rs hs : Registers) (w : IsWithin rs hs) whe
   base_below (Constant v) = refl
   base_below Unknown = tt
 
-  step_below : (inbounds : Bool) (width each : ℕ) (p q : Option machine.Value) (v : machine.Value) → IsBelow p q → IsBelow (stepped memory inbounds width each p v) (stepped memory inbounds width each q v)
-  step_below inbounds width each None q v b = tt
-  step_below inbounds width each (Some i) q v b = ap (λ q. stepped memory inbounds width each q v) b
+  step_below : (inbounds nuw : Bool) (width each : ℕ) (p q : Option machine.Value) (v : machine.Value) → IsBelow p q → IsBelow (stepped memory inbounds nuw width each p v) (stepped memory inbounds nuw width each q v)
+  step_below inbounds nuw width each None q v b = tt
+  step_below inbounds nuw width each (Some i) q v b = ap (λ q. stepped memory inbounds nuw width each q v) b
 
   move_below : (m : Move) (v : machine.Value) → IsBelow (moved memory rs m v) (moved memory hs m v)
   move_below (Begin inbounds) v = refl
-  move_below (By inbounds width each index) v = step_below inbounds width each (base_value rs index) (base_value hs index) v (base_below index)
+  move_below (By inbounds nuw width each index) v = step_below inbounds nuw width each (base_value rs index) (base_value hs index) v (base_below index)
 
   moves_below : (moves : List Move) (p q : Option machine.Value) → IsBelow p q → IsBelow (moved_all memory rs p moves) (moved_all memory hs q moves)
   moves_below moves None q b = tt
@@ -138,13 +138,13 @@ module _ (memory : List (List ℕ)) (rs hs : Registers) (w : IsWithin rs hs) whe
 
   pub below : (objects : List Object) (a : Act) → LosesMore (computed memory objects rs a) (computed memory objects hs a)
   below objects (act.Binary kind flags width a b) = two (on_two (binary flags kind width)) (λ q. refl) (no_second (binary flags kind width)) a b
-  below objects (act.Compare p width a b) = two (on_two (compare_numbers p width)) (λ q. refl) (no_second (compare_numbers p width)) a b
+  below objects (act.Compare samesign p width a b) = two (on_two (compare_numbers samesign p width)) (λ q. refl) (no_second (compare_numbers samesign p width)) a b
   below objects (act.ComparePointers p a b) = two (on_two (compare_sized memory p)) (λ q. refl) (no_second (compare_sized memory p)) a b
   below objects (act.Select c a b) =
       after (on_three select (value_of memory rs c) (value_of memory rs a) (value_of memory rs b)) (on_three select (value_of memory hs c) (value_of memory rs a) (value_of memory rs b)) (on_three select (value_of memory hs c) (value_of memory hs a) (value_of memory hs b))
       (one (λ p. on_three select p (value_of memory rs a) (value_of memory rs b)) refl c)
       (two (on_three select (value_of memory hs c)) (λ q. no_middle select (value_of memory hs c) q) (λ p. no_third select (value_of memory hs c) p) a b)
-  below objects (act.Convert kind nneg from to a) = one (on_one (convert nneg kind from to)) refl a
+  below objects (act.Convert kind flags from to a) = one (on_one (convert flags kind from to)) refl a
   below objects (act.Freeze a) = one (on_one freeze) refl a
   below objects (act.Address a) = one given refl a
   below objects (act.Slot align) = refl

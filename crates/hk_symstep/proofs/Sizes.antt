@@ -1,9 +1,9 @@
 -- The size of the object that an address points to, told by its base.
-use Rattle.std.proofs.Common.{◌≡◌, ℕ, ◌-◌, Bool, true, false, if◌then◌else◌, nat_eq, nat_le, List, refl, ap, ◌∙◌, arith}
+use Rattle.std.proofs.Common.{◌≡◌, ℕ, ◌-◌, Bool, true, false, ◌&&◌, if◌then◌else◌, nat_eq, nat_le, List, refl, ap, ◌∙◌, arith}
 use Rattle.ir_ast.specs.declared.instr.Predicate.{Predicate}
 use Rattle.ir_value.specs.declared.value.Value.{Value}
 use Rattle.ir_value.specs.declared.value.Value.TheVariants.{Number, Null, Address, Poison}
-use Rattle.ir_value.specs.Pointers.{begin_at, step_of, compare_pointers}
+use Rattle.ir_value.specs.Pointers.{begin_at, signed_step, wraps, step_of, compare_pointers}
 use Rattle.ir_machine.specs.Values.{size_at, size_of}
 use Rattle.hk_symvalue.specs.Meaning.{stands_for}
 use Rattle.hk_symaccess.specs.Accesses.{sized}
@@ -31,7 +31,7 @@ begin_free a b Null = refl
 begin_free a b (Address o x) = refl
 begin_free a b Poison = refl
 
-step_free : (w each a b : ℕ) (i v : Value) → step_of false a w each i v ≡ step_of false b w each i v
+step_free : (w each a b : ℕ) (i v : Value) → signed_step false a w each i v ≡ signed_step false b w each i v
 step_free w each a b (Number n) (Number m) = refl
 step_free w each a b (Number n) Null = refl
 step_free w each a b (Number n) (Address o x) = refl
@@ -43,19 +43,19 @@ step_free w each a b Poison v = refl
 begin_poison : (inbounds : Bool) (a b : ℕ) → begin_at inbounds a Poison ≡ begin_at inbounds b Poison
 begin_poison inbounds a b = refl
 
-step_poison : (inbounds : Bool) (w each : ℕ) (i : Value) (a b : ℕ) → step_of inbounds a w each i Poison ≡ step_of inbounds b w each i Poison
+step_poison : (inbounds : Bool) (w each : ℕ) (i : Value) (a b : ℕ) → signed_step inbounds a w each i Poison ≡ signed_step inbounds b w each i Poison
 step_poison inbounds w each (Number n) a b = refl
 step_poison inbounds w each Null a b = refl
 step_poison inbounds w each (Address o x) a b = refl
 step_poison inbounds w each Poison a b = refl
 
-step_null : (inbounds : Bool) (w each : ℕ) (i : Value) (a b : ℕ) → step_of inbounds a w each i Null ≡ step_of inbounds b w each i Null
+step_null : (inbounds : Bool) (w each : ℕ) (i : Value) (a b : ℕ) → signed_step inbounds a w each i Null ≡ signed_step inbounds b w each i Null
 step_null inbounds w each (Number n) a b = refl
 step_null inbounds w each Null a b = refl
 step_null inbounds w each (Address o x) a b = refl
 step_null inbounds w each Poison a b = refl
 
-step_number : (inbounds : Bool) (w each : ℕ) (i : Value) (a b n : ℕ) → step_of inbounds a w each i (Number n) ≡ step_of inbounds b w each i (Number n)
+step_number : (inbounds : Bool) (w each : ℕ) (i : Value) (a b n : ℕ) → signed_step inbounds a w each i (Number n) ≡ signed_step inbounds b w each i (Number n)
 step_number inbounds w each (Number m) a b n = refl
 step_number inbounds w each Null a b n = refl
 step_number inbounds w each (Address o x) a b n = refl
@@ -67,12 +67,17 @@ begun false size memory p base bits e = begin_free size (size_at memory (stands_
 begun true size memory p base bits e =
     ap (λ s. begin_at true s (stands_for p base bits)) (e refl) ∙ by_base (begin_at true) (begin_poison true) (λ a b. refl) (λ a b n. refl) memory p base bits
 
-pub stepped : (inbounds : Bool) (size : ℕ) (memory : List (List ℕ)) (w each : ℕ) (i : Value) (p : Bool) (base bits : ℕ) → (inbounds ≡ true → size ≡ sized memory base)
-    → step_of inbounds size w each i (stands_for p base bits) ≡ step_of inbounds (size_at memory (stands_for p base bits)) w each i (stands_for p base bits)
-stepped false size memory w each i p base bits e = step_free w each size (size_at memory (stands_for p base bits)) i (stands_for p base bits)
-stepped true size memory w each i p base bits e =
-    ap (λ s. step_of true s w each i (stands_for p base bits)) (e refl)
-    ∙ by_base (λ s v. step_of true s w each i v) (step_poison true w each i) (step_null true w each i) (step_number true w each i) memory p base bits
+signed : (inbounds : Bool) (size : ℕ) (memory : List (List ℕ)) (w each : ℕ) (i : Value) (p : Bool) (base bits : ℕ) → (inbounds ≡ true → size ≡ sized memory base)
+    → signed_step inbounds size w each i (stands_for p base bits) ≡ signed_step inbounds (size_at memory (stands_for p base bits)) w each i (stands_for p base bits)
+signed false size memory w each i p base bits e = step_free w each size (size_at memory (stands_for p base bits)) i (stands_for p base bits)
+signed true size memory w each i p base bits e =
+    ap (λ s. signed_step true s w each i (stands_for p base bits)) (e refl)
+    ∙ by_base (λ s v. signed_step true s w each i v) (step_poison true w each i) (step_null true w each i) (step_number true w each i) memory p base bits
+
+pub stepped : (inbounds nuw : Bool) (size : ℕ) (memory : List (List ℕ)) (w each : ℕ) (i : Value) (p : Bool) (base bits : ℕ) → (inbounds ≡ true → size ≡ sized memory base)
+    → step_of inbounds nuw size w each i (stands_for p base bits) ≡ step_of inbounds nuw (size_at memory (stands_for p base bits)) w each i (stands_for p base bits)
+stepped inbounds nuw size memory w each i p base bits e =
+    ap (λ u. if (inbounds && nuw) && wraps w each i (stands_for p base bits) then Poison else u) (signed inbounds size memory w each i p base bits e)
 
 -- ---- comparisons
 

@@ -71,6 +71,7 @@ fn binary<R: InitialReads>(
 fn compare<R: InitialReads>(
     t: &mut Terms,
     state: &State<R>,
+    samesign: bool,
     predicate: Predicate,
     width: u32,
     inputs: &Inputs,
@@ -81,10 +82,10 @@ fn compare<R: InitialReads>(
     requires file { IsFile t.old state.now.file.now }
     ensures frame { Extends t.old t.new }
     ensures within { IfOk result (λ r. IsComputed t.new r) }
-    ensures answers { IfOk result (λ r. (v : Reading) → AnswersComputed t.new v r (definition.on_two (compare_numbers predicate width) (definition.value_of (memory_at t.old state.now.memory.now v) (registers_of t.old v state.now.file.now) inputs.now.a.now) (definition.value_of (memory_at t.old state.now.memory.now v) (registers_of t.old v state.now.file.now) inputs.now.b.now))) }
+    ensures answers { IfOk result (λ r. (v : Reading) → AnswersComputed t.new v r (definition.on_two (compare_numbers samesign predicate width) (definition.value_of (memory_at t.old state.now.memory.now v) (registers_of t.old v state.now.file.now) inputs.now.a.now) (definition.value_of (memory_at t.old state.now.memory.now v) (registers_of t.old v state.now.file.now) inputs.now.b.now))) }
 {
     let operands = two(t, state.layout, state.memory, state.file, inputs)?;
-    let made = rows::compare(t, predicate, width, operands.a, operands.b)?;
+    let made = rows::compare(t, samesign, predicate, width, operands.a, operands.b)?;
     Ok(made)
 }
 
@@ -137,7 +138,7 @@ fn select<R: InitialReads>(
 fn convert<R: InitialReads>(
     t: &mut Terms,
     state: &State<R>,
-    nneg: bool,
+    flags: Flags,
     kind: ConvertKind,
     widths: Widths,
     a: &Input,
@@ -148,10 +149,10 @@ fn convert<R: InitialReads>(
     requires file { IsFile t.old state.now.file.now }
     ensures frame { Extends t.old t.new }
     ensures within { IfOk result (λ r. IsComputed t.new r) }
-    ensures answers { IfOk result (λ r. (v : Reading) → AnswersComputed t.new v r (definition.on_one (convert nneg kind widths.from widths.to) (definition.value_of (memory_at t.old state.now.memory.now v) (registers_of t.old v state.now.file.now) a.now))) }
+    ensures answers { IfOk result (λ r. (v : Reading) → AnswersComputed t.new v r (definition.on_one (convert flags kind widths.from widths.to) (definition.value_of (memory_at t.old state.now.memory.now v) (registers_of t.old v state.now.file.now) a.now))) }
 {
     let value = operand(t, state.layout, state.memory, state.file, a)?;
-    let made = rows::convert(t, nneg, kind, widths.from, widths.to, value)?;
+    let made = rows::convert(t, flags, kind, widths.from, widths.to, value)?;
     Ok(made)
 }
 
@@ -348,18 +349,19 @@ fn given<R: InitialReads>(
             b,
         } => binary(t, state, *flags, *kind, *width, &Inputs { a, b }),
         Act::Compare {
+            samesign,
             predicate,
             width,
             a,
             b,
-        } => compare(t, state, *predicate, *width, &Inputs { a, b }),
+        } => compare(t, state, *samesign, *predicate, *width, &Inputs { a, b }),
         Act::ComparePointers { predicate, a, b } => {
             compare_pointers(t, state, *predicate, &Inputs { a, b })
         }
         Act::Select { condition, a, b } => select(t, state, condition, &Inputs { a, b }),
         Act::Convert {
             kind,
-            nneg,
+            flags,
             from,
             to,
             a,
@@ -368,7 +370,7 @@ fn given<R: InitialReads>(
                 from: *from,
                 to: *to,
             };
-            convert(t, state, *nneg, *kind, widths, a)
+            convert(t, state, *flags, *kind, widths, a)
         }
         Act::Freeze { a } => freeze(t, state, a),
         Act::Address { a } => address(t, state, a),

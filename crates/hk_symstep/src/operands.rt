@@ -123,7 +123,7 @@ fn stepped<R: InitialReads>(
     requires from { IsSym t.old from }
     ensures frame { Extends t.old t.new }
     ensures within { IfOk result (λ r. IsSym t.new r) }
-    ensures value { IfOk result (λ r. (v : Reading) → meaning t.new r v ≡ step_of stride.inbounds (definition.size_at (memory_at t.old memory.now v) (meaning t.old from v)) stride.width stride.each (meaning t.old index v) (meaning t.old from v)) }
+    ensures value { IfOk result (λ r. (v : Reading) → meaning t.new r v ≡ step_of stride.inbounds stride.nuw (definition.size_at (memory_at t.old memory.now v) (meaning t.old from v)) stride.width stride.each (meaning t.old index v) (meaning t.old from v)) }
 {
     let size = size_for(t, layout, memory, stride.inbounds, from.base)?;
     let made = step(t, stride, size, index, from)?;
@@ -162,7 +162,7 @@ fn steps<R: InitialReads>(
     requires from { IsSym t.old from }
     ensures frame { Extends t.old t.new }
     ensures within { IfOk result (λ r. IsOperand t.new r) }
-    ensures value { IfOk result (λ r. (v : Reading) → value_meaning t.new v r ≡ definition.stepped (memory_at t.old memory.now v) stride.inbounds stride.width stride.each (value_meaning t.old v index) (meaning t.old from v)) }
+    ensures value { IfOk result (λ r. (v : Reading) → value_meaning t.new v r ≡ definition.stepped (memory_at t.old memory.now v) stride.inbounds stride.nuw stride.width stride.each (value_meaning t.old v index) (meaning t.old from v)) }
 {
     match index {
         Some(index) => {
@@ -194,12 +194,14 @@ fn moved<R: InitialReads>(
         Move::Begin { inbounds } => begins(t, layout, memory, inbounds, from),
         Move::By {
             inbounds,
+            nuw,
             width,
             each,
             index,
         } => {
             let stride = Stride {
                 inbounds,
+                nuw,
                 width,
                 each,
             };

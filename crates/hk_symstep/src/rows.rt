@@ -79,6 +79,7 @@ pub(crate) fn binary(
 
 pub(crate) fn compare(
     t: &mut Terms,
+    samesign: bool,
     predicate: Predicate,
     width: u32,
     a: Option<SymValue>,
@@ -88,11 +89,11 @@ pub(crate) fn compare(
     requires second { IsOperand t.old b }
     ensures frame { Extends t.old t.new }
     ensures within { IfOk result (λ r. IsComputed t.new r) }
-    ensures answers { IfOk result (λ r. (v : Reading) → AnswersComputed t.new v r (definition.on_two (compare_numbers predicate width) (value_meaning t.old v a) (value_meaning t.old v b))) }
+    ensures answers { IfOk result (λ r. (v : Reading) → AnswersComputed t.new v r (definition.on_two (compare_numbers samesign predicate width) (value_meaning t.old v a) (value_meaning t.old v b))) }
 {
     match (a, b) {
         (Some(a), Some(b)) => {
-            let made = hk_symvalue::compare_numbers(t, predicate, width, a, b)?;
+            let made = hk_symvalue::compare_numbers(t, samesign, predicate, width, a, b)?;
             let computed = by_value(t, made)?;
             Ok(computed)
         }
@@ -175,7 +176,7 @@ pub(crate) fn select(
 
 pub(crate) fn convert(
     t: &mut Terms,
-    nneg: bool,
+    flags: Flags,
     kind: ConvertKind,
     from: u32,
     to: u32,
@@ -184,11 +185,11 @@ pub(crate) fn convert(
     requires { IsOperand t.old a }
     ensures frame { Extends t.old t.new }
     ensures within { IfOk result (λ r. IsComputed t.new r) }
-    ensures answers { IfOk result (λ r. (v : Reading) → AnswersComputed t.new v r (definition.on_one (convert nneg kind from to) (value_meaning t.old v a))) }
+    ensures answers { IfOk result (λ r. (v : Reading) → AnswersComputed t.new v r (definition.on_one (convert flags kind from to) (value_meaning t.old v a))) }
 {
     match a {
         Some(a) => {
-            let made = hk_symvalue::convert(t, nneg, kind, from, to, a)?;
+            let made = hk_symvalue::convert(t, flags, kind, from, to, a)?;
             let computed = by_value(t, made)?;
             Ok(computed)
         }

@@ -4,11 +4,15 @@ use Rattle.std.proofs.lemmas.Int.{ints}
 use Rattle.std.proofs.Math.IntN.{neg_ℤ, pos-*ℤ-pos, negsuc-*ℤ-pos}
 use Rattle.std.proofs.Math.Nat.{mod-eq_of_lt, div-lt_iff_lt-mul, le-div_iff_mul-le, mul-zero}
 use Rattle.std.proofs.lemmas.Bool.{lt-ltb, le-ltb, le-leb, lt-leb, cases_lt, ne_eqb, ltb-true}
-use Rattle.hk_num.specs.Numbers.{number_of}
+use Rattle.std.specs.Prelude.{int_lt}
+use Rattle.std.proofs.lemmas.Nat.{pow_pos}
+use Rattle.hk_num.specs.Numbers.{number_of, signed_of, bvslt}
+use Rattle.hk_num.proofs.Readings.{reading_low}
+use Rattle.ir_value.proofs.Unsigned.{by_sign}
 use Rattle.ir_value.specs.declared.value.Value.{Value}
 use Rattle.ir_value.specs.declared.value.Value.TheVariants.{Number, Null, Address, Poison}
 use Rattle.ir_value.specs.Numbers.{is_width, is_number}
-use Rattle.ir_value.specs.Pointers.{added_by, is_within, is_no_move, move_by, step_of}
+use Rattle.ir_value.specs.Pointers.{added_by, is_within, is_no_move, move_by, signed_step, wraps, steps_back, step_of}
 use Rattle.hk_symvalue.specs.Meaning.{based, stands_for}
 use Rattle.hk_symvalue.specs.Indices.{distance, is_back, delta_of, leaves_object, stays_at}
 
@@ -172,19 +176,19 @@ module _ (inbounds pf none : Bool) (w each xi base x size y : ℕ) where
   number width goes false f = all_poison pf ∙ sym (ap (λ t. if t && false then move_by inbounds size (added_by w xi each) (stands_for pf base x) else Poison) width)
 
   known : (bi : ℕ) → is_width w ≡ true → Goes → (zero one : Bool) → stands_for (pf || (not (zero && nat_lt xi (2 ^ w)) || none)) base y
-      ≡ step_of inbounds size w each (if zero then Number xi else (if one then Null else Address (bi - 2) xi)) (stands_for pf base x)
+      ≡ signed_step inbounds size w each (if zero then Number xi else (if one then Null else Address (bi - 2) xi)) (stands_for pf base x)
   known bi width goes true one = number width goes (nat_lt xi (2 ^ w)) refl
   known bi width goes false true = all_poison pf
   known bi width goes false false = all_poison pf
 
-  by_index : (bi : ℕ) → is_width w ≡ true → Goes → (pi : Bool) → stands_for (pf || ((pi || not (nat_eq bi 0 && nat_lt xi (2 ^ w))) || none)) base y ≡ step_of inbounds size w each (stands_for pi bi xi) (stands_for pf base x)
+  by_index : (bi : ℕ) → is_width w ≡ true → Goes → (pi : Bool) → stands_for (pf || ((pi || not (nat_eq bi 0 && nat_lt xi (2 ^ w))) || none)) base y ≡ signed_step inbounds size w each (stands_for pi bi xi) (stands_for pf base x)
   by_index bi width goes true = all_poison pf
   by_index bi width goes false = known bi width goes (nat_eq bi 0) (nat_eq bi 1)
 
 pub step_is : (inbounds pi pf bad back over r : Bool) (w each bi xi base x size y n by : ℕ) → 1 ≤ w → w ≤ 64 → x < 2 ^ 64 → size < 2 ^ 64 → n ≡ xi % 2 ^ w
     → bad ≡ (pi || not (nat_eq bi 0 && nat_lt xi (2 ^ w))) → back ≡ is_back w n → over ≡ nat_le (2 ^ 64) (distance w n each) → by ≡ delta_of (is_back w n) (distance w n each)
     → y ≡ (x + by) % 2 ^ 64 → r ≡ (pf || (bad || stays_at inbounds back over by base x size))
-    → stands_for r base y ≡ step_of inbounds size w each (stands_for pi bi xi) (stands_for pf base x)
+    → stands_for r base y ≡ signed_step inbounds size w each (stands_for pi bi xi) (stands_for pf base x)
 step_is inbounds pi pf bad back over r w each bi xi base x size y n by some most small room is bad_is back_is over_is by_is to poison =
     ap (λ t. stands_for t base y) (poison ∙ (λ i. pf || (bad_is i || stays_at inbounds (back_is i) (over_is i) (by_is i) base x size)))
     ∙ by_index inbounds pf (stays_at inbounds (is_back w n) (nat_le (2 ^ 64) (distance w n each)) (delta_of (is_back w n) (distance w n each)) base x size) w each xi base x size y bi width goes pi
@@ -204,13 +208,74 @@ step_is inbounds pi pf bad back over r w each bi xi base x size y n by some most
         ∙ ap (λ z. move_by inbounds size z (based base x)) (sym (added_is w n each) ∙ ap (λ k. added_by w k each) (is ∙ mod-eq_of_lt (ltb-true _ _ f)))
 
 -- no index has a number of another width
-pub no_width : (inbounds : Bool) (size w each : ℕ) (i v : Value) → (1 ≤ w → w ≤ 64 → ⊥) → Poison ≡ step_of inbounds size w each i v
-no_width inbounds size w each Null v h = refl
-no_width inbounds size w each (Address o x) v h = refl
-no_width inbounds size w each Poison v h = refl
-no_width inbounds size w each (Number n) v h = sym (by (cases_lt 0 w) (cases_lt 64 w))
+pub no_width : (inbounds nuw : Bool) (size w each : ℕ) (i v : Value) → (1 ≤ w → w ≤ 64 → ⊥) → Poison ≡ step_of inbounds nuw size w each i v
+no_width inbounds nuw size w each i v h = by ((inbounds && nuw) && wraps w each i v)
   where
-    by : (0 < w) ⊎ (w ≤ 0) → (64 < w) ⊎ (w ≤ 64) → step_of inbounds size w each (Number n) v ≡ Poison
-    by (inr z) s = λ i. if (lt-leb 1 w (omega (arith, z)) i && nat_le w 64) && is_number w n then move_by inbounds size (added_by w n each) v else Poison
-    by (inl o) (inl far) = λ i. if (le-leb 1 w o i && lt-leb w 64 far i) && is_number w n then move_by inbounds size (added_by w n each) v else Poison
-    by (inl o) (inr near) = absurd (h o near)
+    number : (n : ℕ) → (0 < w) ⊎ (w ≤ 0) → (64 < w) ⊎ (w ≤ 64) → signed_step inbounds size w each (Number n) v ≡ Poison
+    number n (inr z) s = λ i. if (lt-leb 1 w (omega (arith, z)) i && nat_le w 64) && is_number w n then move_by inbounds size (added_by w n each) v else Poison
+    number n (inl o) (inl far) = λ i. if (le-leb 1 w o i && lt-leb w 64 far i) && is_number w n then move_by inbounds size (added_by w n each) v else Poison
+    number n (inl o) (inr near) = absurd (h o near)
+
+    stays : (i : Value) → Poison ≡ signed_step inbounds size w each i v
+    stays Null = refl
+    stays (Address o x) = refl
+    stays Poison = refl
+    stays (Number n) = sym (number n (cases_lt 0 w) (cases_lt 64 w))
+
+    by : (t : Bool) → Poison ≡ (if t then Poison else signed_step inbounds size w each i v)
+    by true = refl
+    by false = stays i
+
+-- ---- the flags
+
+below_zero : (w n : ℕ) → 1 ≤ w → bvslt w n 0 ≡ is_back w n
+below_zero w n some = ap (λ z. int_lt (signed_of w n) z) (reading_low w 0 (pow_pos (w - 1))) ∙ by (nat_lt n (2 ^ (w - 1)))
+  where
+    by : (t : Bool) → int_lt (if t then pos n else negsuc (2 ^ w - 1 - n)) (pos 0) ≡ not t
+    by true = le-ltb n 0 (omega arith)
+    by false = refl
+
+poison_anyway : (t : Bool) (m : Value) → m ≡ Poison → (if t then Poison else m) ≡ Poison
+poison_anyway true m e = refl
+poison_anyway false m e = e
+
+pub or_poison : (a p : Bool) (base bits : ℕ) → stands_for (a || p) base bits ≡ (if a then Poison else stands_for p base bits)
+or_poison true p base bits = refl
+or_poison false p base bits = refl
+
+-- the sign of an index tells whether the flags exclude it
+pub flagged_is : (inbounds nuw pi : Bool) (size w each bi xi : ℕ) (v m : Value) → size < 2 ^ 64 → 1 ≤ w → w ≤ 64 → m ≡ signed_step inbounds size w each (stands_for pi bi xi) v
+    → (if ((inbounds && nuw) && not (each == 0)) && is_back w (xi % 2 ^ w) then Poison else m) ≡ step_of inbounds nuw size w each (stands_for pi bi xi) v
+flagged_is inbounds nuw pi size w each bi xi v m fits some most e = by pi (nat_eq bi 0) (nat_eq bi 1) e
+  where
+    test : Bool
+    test = ((inbounds && nuw) && not (each == 0)) && is_back w (xi % 2 ^ w)
+
+    width : is_width w ≡ true
+    width = λ i. le-leb 1 w some i && le-leb w 64 most i
+
+    no_index : (j : Value) → signed_step inbounds size w each j v ≡ Poison → step_of inbounds nuw size w each j v ≡ Poison
+    no_index j none = poison_anyway ((inbounds && nuw) && wraps w each j v) (signed_step inbounds size w each j v) none
+
+    grouped : (a b c : Bool) → ((a && b) && c) ≡ (a && (b && c))
+    grouped true b c = refl
+    grouped false b c = refl
+
+    number : (t : Bool) → is_number w xi ≡ t → m ≡ signed_step inbounds size w each (Number xi) v → (if test then Poison else m) ≡ step_of inbounds nuw size w each (Number xi) v
+    number false f e =
+        let none : signed_step inbounds size w each (Number xi) v ≡ Poison = λ i. if width i && f i then move_by inbounds size (added_by w xi each) v else Poison in
+        poison_anyway test m (e ∙ none) ∙ sym (no_index (Number xi) none)
+    number true f e =
+        let same : xi % 2 ^ w ≡ xi = mod-eq_of_lt (ltb-true xi (2 ^ w) f) in
+        let told : test ≡ ((inbounds && nuw) && steps_back w each (Number xi)) =
+        grouped (inbounds && nuw) (not (each == 0)) (is_back w (xi % 2 ^ w))
+        ∙ (λ i. (inbounds && nuw) && (not (each == 0) && (ap (is_back w) same ∙ sym (below_zero w xi some)) i))
+        ∙ sym (λ i. (inbounds && nuw) && ((width i && f i) && (not (each == 0) && bvslt w xi 0))) in
+        (λ i. if told i then Poison else e i) ∙ sym (by_sign inbounds nuw size w each (Number xi) v fits)
+
+    by : (p zero one : Bool) → m ≡ signed_step inbounds size w each (if p then Poison else (if zero then Number xi else (if one then Null else Address (bi - 2) xi))) v
+        → (if test then Poison else m) ≡ step_of inbounds nuw size w each (if p then Poison else (if zero then Number xi else (if one then Null else Address (bi - 2) xi))) v
+    by true zero one e = poison_anyway test m e ∙ sym (no_index Poison refl)
+    by false true one e = number (is_number w xi) refl e
+    by false false true e = poison_anyway test m e ∙ sym (no_index Null refl)
+    by false false false e = poison_anyway test m e ∙ sym (no_index (Address (bi - 2) xi) refl)

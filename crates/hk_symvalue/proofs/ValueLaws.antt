@@ -4,7 +4,9 @@ use Rattle.ir_value.specs.Intrinsics.{assumes, wrapped, overflowed, overflow_of}
 use Rattle.ir_value.specs.declared.intrinsics.OverflowKind.{OverflowKind}
 use Rattle.hk_symvalue.proofs.TruthLaws.{one_bit}
 use Rattle.std.proofs.Common.{◌≡◌, ◌<◌, ◌^◌, ◌+◌, ◌-◌, ◌%◌, ◌⊎◌, ℕ, Bool, true, false, not, ◌&&◌, ◌||◌, ◌==◌, if◌then◌else◌, nat_eq, nat_lt, nat_le, inl, inr, refl, sym, ap, ◌∙◌, subst, arith, rules}
-use Rattle.std.proofs.Math.Nat.{mod-eq_of_lt}
+use Rattle.std.proofs.Math.Nat.{mod-eq_of_lt, mod-lt}
+use Rattle.std.proofs.Math.Pow.{pow_mono}
+use Rattle.std.proofs.lemmas.Nat.{pow_pos}
 use Rattle.std.proofs.lemmas.Bool.{ne_eqb, ltb-true, eqb-true}
 use Rattle.ir_ast.specs.declared.instr.BinaryKind.{BinaryKind}
 use Rattle.ir_ast.specs.declared.instr.BinaryKind.TheVariants.{Add, Sub, Mul, Shl, Udiv, Sdiv, Lshr, Ashr, Urem, Srem, And, Xor, Or}
@@ -16,7 +18,7 @@ use Rattle.ir_value.specs.declared.value.Made.{Made}
 use Rattle.ir_value.specs.declared.value.Made.TheVariants.{Gives, Sticks, Lost}
 use Rattle.ir_value.specs.declared.value.StuckReason.TheVariants.{U1, U2}
 use Rattle.hk_num.specs.Numbers.{bvslt, sign_extend, bvudiv, bvurem, bvsdiv, bvsrem}
-use Rattle.ir_value.specs.Numbers.{is_width, takes, unless, is_minus_one, is_least, of_numbers, binary_of, by_poison, poison_by, is_division, is_signed_division, truth, holds, compare_of, freeze, select, convert_of}
+use Rattle.ir_value.specs.Numbers.{is_width, takes, unless, is_minus_one, is_least, of_numbers, binary_of, by_poison, poison_by, is_division, is_signed_division, truth, holds, signs_differ, compare_of, freeze, select, is_narrower, convert_of}
 use Rattle.hk_symvalue.specs.Meaning.{stands_for}
 use Rattle.hk_symvalue.specs.Rows.{Answers, Shown, sticks, flagged, binary_sticks}
 
@@ -217,12 +219,16 @@ bit_number w a e h = by (one_bit w a e h)
     by (inl z) = subst (λ n. n ≡ truth (nat_eq n 1)) (sym z) refl
     by (inr o) = subst (λ n. n ≡ truth (nat_eq n 1)) (sym o) refl
 
-pub compare_answers : (p : Predicate) (w a b n : ℕ) (h pa pb : Bool) (m : Value) → h ≡ holds p w a b → n ≡ truth h → m ≡ flagged ((pa || pb) || false) n
-    → Answers false m (compare_of p w (flagged pa a) (flagged pb b))
-compare_answers p w a b n h false false m e f g = (refl, g ∙ ap Number (f ∙ ap truth e))
-compare_answers p w a b n h false true m e f g = (refl, g)
-compare_answers p w a b n h true false m e f g = (refl, g)
-compare_answers p w a b n h true true m e f g = (refl, g)
+pub compare_answers : (samesign : Bool) (p : Predicate) (w a b n : ℕ) (h pa pb : Bool) (m : Value) → h ≡ holds p w a b → n ≡ truth h
+    → m ≡ flagged ((pa || pb) || (samesign && signs_differ w a b)) n → Answers false m (compare_of samesign p w (flagged pa a) (flagged pb b))
+compare_answers samesign p w a b n h false false m e f g = by (samesign && signs_differ w a b) (g ∙ ap (flagged (samesign && signs_differ w a b)) (f ∙ ap truth e))
+  where
+    by : (t : Bool) → m ≡ flagged t (truth (holds p w a b)) → Answers false m (unless t (truth (holds p w a b)))
+    by true e = (refl, e)
+    by false e = (refl, e)
+compare_answers samesign p w a b n h false true m e f g = (refl, g)
+compare_answers samesign p w a b n h true false m e f g = (refl, g)
+compare_answers samesign p w a b n h true true m e f g = (refl, g)
 
 pub frozen : (p : Bool) (base x : ℕ) → Answers p (stands_for false base x) (freeze (stands_for p base x))
 frozen true base x = refl
@@ -270,17 +276,31 @@ selected pc dc xc a b s q r d e x y bit merged poison base bits =
 
 -- ---- changes of width
 
-pub truncated : (nneg : Bool) (w to a : ℕ) (pa : Bool) (m : Value) → m ≡ flagged ((pa || false) || false) (a % 2 ^ to) → Answers false m (convert_of nneg Trunc w to (flagged pa a))
-truncated nneg w to a false m e = (refl, e)
-truncated nneg w to a true m e = (refl, e)
+-- the low bits of a wider number are a number of its width
+pub low_again : (w to a : ℕ) → is_narrower Trunc w to ≡ true → (a % 2 ^ to) % 2 ^ w ≡ a % 2 ^ to
+low_again w to a narrow =
+    let less : to < w = ltb-true to w narrow in
+    mod-eq_of_lt (omega (arith, mod-lt a (pow_pos {m = 2} to), pow_mono {i = to} {j = w} (omega (arith, less))))
 
-pub extended : (nneg : Bool) (w to a : ℕ) (pa : Bool) (m : Value) → m ≡ flagged ((pa || false) || false) (sign_extend w to a) → Answers false m (convert_of nneg Sext w to (flagged pa a))
-extended nneg w to a false m e = (refl, e)
-extended nneg w to a true m e = (refl, e)
+pub truncated : (f : Flags) (w to a : ℕ) (pa : Bool) (m : Value) → (a % 2 ^ to) % 2 ^ w ≡ a % 2 ^ to
+    → m ≡ flagged ((pa || ((f.nuw && not (nat_eq ((a % 2 ^ to) % 2 ^ w) a)) || (f.nsw && not (nat_eq (sign_extend to w (a % 2 ^ to)) a)))) || false) (a % 2 ^ to)
+    → Answers false m (convert_of f Trunc w to (flagged pa a))
+truncated f w to a true m low e = (refl, e)
+truncated f w to a false m low e =
+    by ((f.nuw && not (nat_eq (a % 2 ^ to) a)) || (f.nsw && not (nat_eq (sign_extend to w (a % 2 ^ to)) a)))
+    (e ∙ ap (λ k. flagged (((f.nuw && not (nat_eq k a)) || (f.nsw && not (nat_eq (sign_extend to w (a % 2 ^ to)) a))) || false) (a % 2 ^ to)) low)
+  where
+    by : (t : Bool) → m ≡ flagged (t || false) (a % 2 ^ to) → Answers false m (unless t (a % 2 ^ to))
+    by true e = (refl, e)
+    by false e = (refl, e)
 
-pub padded : (nneg : Bool) (w to a : ℕ) (pa : Bool) (m : Value) → m ≡ flagged ((pa || (nneg && bvslt w a 0)) || false) a → Answers false m (convert_of nneg Zext w to (flagged pa a))
-padded nneg w to a true m e = (refl, e)
-padded nneg w to a false m e = by (nneg && bvslt w a 0) e
+pub extended : (f : Flags) (w to a : ℕ) (pa : Bool) (m : Value) → m ≡ flagged ((pa || false) || false) (sign_extend w to a) → Answers false m (convert_of f Sext w to (flagged pa a))
+extended f w to a false m e = (refl, e)
+extended f w to a true m e = (refl, e)
+
+pub padded : (f : Flags) (w to a : ℕ) (pa : Bool) (m : Value) → m ≡ flagged ((pa || (f.nneg && bvslt w a 0)) || false) a → Answers false m (convert_of f Zext w to (flagged pa a))
+padded f w to a true m e = (refl, e)
+padded f w to a false m e = by (f.nneg && bvslt w a 0) e
   where
     by : (t : Bool) → m ≡ flagged ((false || t) || false) a → Answers false m (unless t a)
     by true h = (refl, h)

@@ -6,13 +6,13 @@ ghost use Rattle.hk_term.specs.Meaning.{Reading, value};
 ghost use Rattle.hk_symvalue.specs.Growth.{Extends};
 ghost use Rattle.hk_symvalue.specs.Meaning.{IsTruth, IsWord, IsSym, IsMade, is_true, meaning};
 ghost use Rattle.hk_symvalue.specs.Rows.{Answers, Shown, flagged, IsFlagged, shown};
-ghost use Rattle.ir_value.specs.Numbers.{truth, holds, compare_of, compare_numbers};
+ghost use Rattle.ir_value.specs.Numbers.{truth, holds, signs_differ, compare_of, compare_numbers};
 ghost use Rattle.hk_num.specs.Numbers.{bvslt};
 
 use crate::logic;
 use crate::rows::number_of;
 use crate::value::{Flagged, SymValue};
-use crate::words::{at_width, bit_of};
+use crate::words::{at_width, bit_of, number, sized};
 use hk_term::{TermId, Terms};
 use ir_ast::Predicate;
 use std::alloc::AllocError;
@@ -84,8 +84,38 @@ pub(crate) fn holds(
     }
 }
 
+/// Whether the signed reading of a number is below 0.
+pub(crate) fn is_below_zero(t: &mut Terms, a: TermId) -> Result<TermId, AllocError>
+    requires { a < length t.old }
+    ensures frame { Extends t.old t.new }
+    ensures truth { IfOk result (λ r. IsTruth t.new r) }
+    ensures value { IfOk result (λ r. (v : Reading) → is_true t.new r v ≡ bvslt (width t.old a) (value t.old a v) 0) }
+{
+    let w = sized(t, a);
+    let none = number(t, w, 0)?;
+    let less = logic::slt(t, a, none)?;
+    Ok(less)
+}
+
+// Whether one of two numbers of a width is negative.
+fn signs_differ(t: &mut Terms, a: TermId, b: TermId) -> Result<TermId, AllocError>
+    requires first { a < length t.old }
+    requires second { b < length t.old }
+    requires widths { width t.old a ≡ width t.old b }
+    ensures frame { Extends t.old t.new }
+    ensures truth { IfOk result (λ r. IsTruth t.new r) }
+    ensures value { IfOk result (λ r. (v : Reading) → is_true t.new r v ≡ signs_differ (width t.old a) (value t.old a v) (value t.old b v)) }
+{
+    let first = is_below_zero(t, a)?;
+    let second = is_below_zero(t, b)?;
+    let other = logic::not(t, second)?;
+    let made = logic::choose(t, first, other, second)?;
+    Ok(made)
+}
+
 fn compare_of(
     t: &mut Terms,
+    samesign: bool,
     predicate: Predicate,
     a: Flagged,
     b: Flagged,
@@ -94,17 +124,19 @@ fn compare_of(
     requires second { IsFlagged t.old (width t.old a.bits) b }
     ensures frame { Extends t.old t.new }
     ensures within { IfOk result (λ r. IsSym t.new r) }
-    ensures answers { IfOk result (λ r. (v : Reading) → Answers false (meaning t.new r v) (compare_of predicate (width t.old a.bits) (shown t.old a v) (shown t.old b v))) }
+    ensures answers { IfOk result (λ r. (v : Reading) → Answers false (meaning t.new r v) (compare_of samesign predicate (width t.old a.bits) (shown t.old a v) (shown t.old b v))) }
 {
     let bit = holds(t, predicate, a.bits, b.bits)?;
     bit_of(t, bit);
-    let never = logic::constant(t, false)?;
-    let value = number_of(t, a.poison, b.poison, never, bit)?;
+    let differ = signs_differ(t, a.bits, b.bits)?;
+    let excluded = logic::flagged(t, samesign, differ)?;
+    let value = number_of(t, a.poison, b.poison, excluded, bit)?;
     Ok(value)
 }
 
 fn compare_at(
     t: &mut Terms,
+    samesign: bool,
     predicate: Predicate,
     w: u32,
     a: SymValue,
@@ -115,12 +147,13 @@ fn compare_at(
     requires second { IsSym t.old b }
     ensures frame { Extends t.old t.new }
     ensures within { IfOk result (λ r. IsSym t.new r) }
-    ensures answers { IfOk result (λ r. (v : Reading) → Answers false (meaning t.new r v) (compare_numbers predicate w (meaning t.old a v) (meaning t.old b v))) }
+    ensures answers { IfOk result (λ r. (v : Reading) → Answers false (meaning t.new r v) (compare_numbers samesign predicate w (meaning t.old a v) (meaning t.old b v))) }
 {
     let x = at_width(t, w, a.bits)?;
     let y = at_width(t, w, b.bits)?;
     let made = compare_of(
         t,
+        samesign,
         predicate,
         Flagged {
             poison: a.poison,
@@ -134,9 +167,10 @@ fn compare_at(
     Ok(made)
 }
 
-/// Compares two numbers of a width. It gives a number of width 1, and never sticks.
+/// Compares two numbers of a width. It gives a number of width 1, and never sticks. With `samesign` it is poison where the signs differ.
 pub fn compare_numbers(
     t: &mut Terms,
+    samesign: bool,
     predicate: Predicate,
     w: u32,
     a: SymValue,
@@ -146,10 +180,10 @@ pub fn compare_numbers(
     requires second { IsSym t.old b }
     ensures frame { Extends t.old t.new }
     ensures within { IfOk result (λ r. IsSym t.new r) }
-    ensures answers { IfOk result (λ r. (v : Reading) → Answers false (meaning t.new r v) (compare_numbers predicate w (meaning t.old a v) (meaning t.old b v))) }
+    ensures answers { IfOk result (λ r. (v : Reading) → Answers false (meaning t.new r v) (compare_numbers samesign predicate w (meaning t.old a v) (meaning t.old b v))) }
 {
     if 1 <= w && w <= 64 {
-        let made = compare_at(t, predicate, w, a, b)?;
+        let made = compare_at(t, samesign, predicate, w, a, b)?;
         Ok(made)
     } else {
         Ok(a)

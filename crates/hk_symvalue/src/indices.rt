@@ -7,7 +7,7 @@ ghost use Rattle.hk_term.specs.Meaning.{Reading, value};
 ghost use Rattle.hk_symvalue.specs.Growth.{Extends};
 ghost use Rattle.hk_symvalue.specs.Meaning.{IsTruth, IsWord, IsSym, is_true, meaning};
 ghost use Rattle.hk_symvalue.specs.Indices.{distance, is_back, delta_of, leaves_object, stays_at, IsMoved};
-ghost use Rattle.ir_value.specs.Pointers.{step_of};
+ghost use Rattle.ir_value.specs.Pointers.{signed_step, step_of};
 
 use crate::make::of_value;
 use crate::numbers::is_some;
@@ -264,10 +264,12 @@ fn behind(
 }
 
 /// How an index of a `getelementptr` steps: it is a signed number of `width` bits, and steps over values of `each` bytes. With `inbounds`
-/// the exact sum must lie in the object or at its end, and else the answer is poison; without it the sum is taken modulo 2^64.
+/// the exact sum must lie in the object or at its end, and else the answer is poison; without it the sum is taken modulo 2^64. With `nuw`
+/// beside `inbounds` the answer is poison, too, where the index, read unsigned, steps over 2^64 bytes or to an offset of 2^64 or more.
 #[derive(Clone, Copy)]
 pub struct Stride {
     pub inbounds: bool,
+    pub nuw: bool,
     pub width: u32,
     pub each: u64,
 }
@@ -286,7 +288,7 @@ fn step_at(
     requires base { IsSym t.old from }
     ensures frame { Extends t.old t.new }
     ensures within { IfOk result (λ r. IsSym t.new r) }
-    ensures value { IfOk result (λ r. (v : Reading) → meaning t.new r v ≡ step_of stride.inbounds (value t.old size v) stride.width stride.each (meaning t.old index v) (meaning t.old from v)) }
+    ensures value { IfOk result (λ r. (v : Reading) → meaning t.new r v ≡ signed_step stride.inbounds (value t.old size v) stride.width stride.each (meaning t.old index v) (meaning t.old from v)) }
 {
     let bits = index.bits;
     // For the proof: the size's number is below 2 to its width.
@@ -295,6 +297,38 @@ fn step_at(
     let m = moved(t, stride.width, stride.each, bits)?;
     let made = behind(t, stride.inbounds, size, m, bad, from)?;
     Ok(made)
+}
+
+// A step by an index with a width that a term may have, and whether the flags exclude it: within an object, they do where it is negative
+// and steps over values that have a size.
+fn flagged_at(
+    t: &mut Terms,
+    stride: Stride,
+    size: TermId,
+    index: SymValue,
+    from: SymValue,
+) -> Result<SymValue, AllocError>
+    requires width { IsWidth stride.width }
+    requires size { IsWord t.old 64 size }
+    requires index { IsSym t.old index }
+    requires base { IsSym t.old from }
+    ensures frame { Extends t.old t.new }
+    ensures within { IfOk result (λ r. IsSym t.new r) }
+    ensures value { IfOk result (λ r. (v : Reading) → meaning t.new r v ≡ step_of stride.inbounds stride.nuw (value t.old size v) stride.width stride.each (meaning t.old index v) (meaning t.old from v)) }
+{
+    // For the proof: the size's number is below 2 to its width.
+    let _size = sized(t, size);
+    let n = at_width(t, stride.width, index.bits)?;
+    let back = is_negative(t, n)?;
+    let counts = stride.inbounds && stride.nuw && stride.each != 0;
+    let excluded = logic::flagged(t, counts, back)?;
+    let stepped = step_at(t, stride, size, index, from)?;
+    let poison = logic::or(t, excluded, stepped.poison)?;
+    Ok(SymValue {
+        poison,
+        base: stepped.base,
+        bits: stepped.bits,
+    })
 }
 
 /// The address that an index steps to. The size is a term of width 64: that of the address's object. Null moves by nothing alone; a
@@ -312,10 +346,10 @@ pub fn step(
     requires base { IsSym t.old from }
     ensures frame { Extends t.old t.new }
     ensures within { IfOk result (λ r. IsSym t.new r) }
-    ensures value { IfOk result (λ r. (v : Reading) → meaning t.new r v ≡ step_of stride.inbounds (value t.old size v) stride.width stride.each (meaning t.old index v) (meaning t.old from v)) }
+    ensures value { IfOk result (λ r. (v : Reading) → meaning t.new r v ≡ step_of stride.inbounds stride.nuw (value t.old size v) stride.width stride.each (meaning t.old index v) (meaning t.old from v)) }
 {
     if 1 <= stride.width && stride.width <= 64 {
-        let made = step_at(t, stride, size, index, from)?;
+        let made = flagged_at(t, stride, size, index, from)?;
         Ok(made)
     } else {
         let made = of_value(t, Value::Poison)?;

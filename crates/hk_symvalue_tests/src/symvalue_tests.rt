@@ -349,6 +349,7 @@ fn step_of(t: &mut Terms, inbounds: bool, each: u64, from: Value) -> Result<SymV
     let i = variable(t, 8, 1)?;
     let a = of_value(t, from)?;
     let stride = Stride {
+        nuw: false,
         inbounds,
         width: 8,
         each,

@@ -9,7 +9,8 @@ use Rattle.ir_ast.specs.declared.instr.ConvertKind.{ConvertKind}
 -- what an instruction does; an alignment of 0 is an absent one
 pub data Act : Type 0 where
   binary : BinaryKind → Flags → ℕ → Val → Val → Act
-  compare : Predicate → Ty → Val → Val → Act
+  -- with `samesign` or not
+  compare : Bool → Predicate → Ty → Val → Val → Act
   select : Val → Ty → Val → Val → Act
   convert : ConvertKind → Flags → ℕ → ℕ → Val → Act
   freeze : Ty → Val → Act

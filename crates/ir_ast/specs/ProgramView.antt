@@ -26,7 +26,7 @@ view_arms arms = map (λ arm. (view_operand arm.0, arm.1)) arms
 
 abbrev pub view_op : Op → Act
 view_op (Binary kind flags width a b) = plain.binary kind flags width (view_operand a) (view_operand b)
-view_op (Compare predicate over a b) = plain.compare predicate (view_type over) (view_operand a) (view_operand b)
+view_op (Compare samesign predicate over a b) = plain.compare samesign predicate (view_type over) (view_operand a) (view_operand b)
 view_op (Select condition over a b) = plain.select (view_operand condition) (view_type over) (view_operand a) (view_operand b)
 view_op (Convert kind flags from to a) = plain.convert kind flags from to (view_operand a)
 view_op (Freeze over a) = plain.freeze (view_type over) (view_operand a)

@@ -56,6 +56,7 @@ pub enum Op {
         b: Operand,
     },
     Compare {
+        samesign: bool,
         predicate: Predicate,
         over: IrType,
         a: Operand,

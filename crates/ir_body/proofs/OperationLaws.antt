@@ -10,7 +10,7 @@ use Rattle.ir_lex.specs.Rows.{Row, rows, wrapping, exacting, simple, disjoining,
 use Rattle.ir_part.specs.Fronts.{after_word}
 use Rattle.ir_part.specs.Types.{type_at, type_within}
 use Rattle.ir_part.proofs.TypeLaws.{no_word}
-use Rattle.ir_body.specs.Words.{or_else, memory_words, arithmetic_words, value_words, control_words, bit_words, memory_of, arithmetic_of, value_of, control_of, bit_of, rarer_of, operation_of}
+use Rattle.ir_body.specs.Words.{predicate_of, unsigned_of, signed_of, or_else, memory_words, arithmetic_words, value_words, control_words, bit_words, memory_of, arithmetic_of, value_of, control_of, bit_of, rarer_of, operation_of}
 use Rattle.ir_body.specs.Rows.{read_row, read_br, read_ret, read_operation, sets_of, is_ready}
 use Rattle.ir_body.specs.declared.operation.Operation.{Operation}
 use Rattle.ir_body.specs.declared.operation.Operation.TheVariants.{Wrapping, Exacting, Simple, Or, Icmp, Select, Trunc, Zext, Sext, Freeze, Phi, Alloca, Load, Store, GetElementPtr, Call, ExtractValue, Br, Switch, Ret, Unreachable}
@@ -178,7 +178,7 @@ unfolding operation_of memory_of arithmetic_of value_of control_of bit_of read_r
 ready_or = record { operation = Or; is = refl; sets = refl; ready = refl; no_colon = refl; reads = λ ts act h. h }
 
 ready_icmp : Ready (codes "icmp", comparing)
-unfolding operation_of memory_of arithmetic_of value_of control_of bit_of read_row type_at type_within width_of
+unfolding predicate_of unsigned_of signed_of operation_of memory_of arithmetic_of value_of control_of bit_of read_row type_at type_within width_of
 ready_icmp = record { operation = Icmp; is = refl; sets = refl; ready = refl; no_colon = refl; reads = λ ts act h. h }
 
 ready_select : Ready (codes "select", selecting)

@@ -5,14 +5,17 @@ use Rattle.ir_ast.specs.Plain.{Ty, integer, Val}
 use Rattle.ir_ast.specs.Program.{Act}
 use Rattle.ir_lex.specs.Decimal.{width_of}
 use Rattle.ir_lex.specs.Tok.{Tok, word, mark}
-use Rattle.ir_lex.specs.Parts.{Part, sign, key, may, width, over, returned, callee, register, predicate, target, part, bit, place, width_value, width_pair, typed, typed_pair, twice, alignment, access, arms, offsets, arguments, choices, Got, AllGot, SpellsPart, SpellsAll, SpellsTyped}
+use Rattle.ir_lex.specs.Parts.{Part, sign, key, may, width, over, returned, callee, register, predicate, target, part, bit, place, width_value, width_pair, typed, typed_pair, twice, alignment, access, arms, offsets, arguments, choices, Got, AllGot, predicate_word, SpellsPart, SpellsAll, SpellsTyped}
+use Rattle.ir_ast.specs.declared.instr.Predicate.{Predicate}
 use Rattle.ir_lex.specs.Rows.{Row}
 use Rattle.ir_part.specs.Reader.{◌>>=◌, ended, Takes}
 use Rattle.ir_part.specs.Fronts.{after_word}
-use Rattle.ir_part.proofs.Fronts.{bound, some_is}
+use Rattle.ir_part.proofs.Fronts.{bound, some_is, text_is}
 use Rattle.ir_part.proofs.TypeLaws.{no_word}
 use Rattle.ir_part.proofs.OperandLaws.{flag_complete}
-use Rattle.ir_body.specs.Rows.{read_part, read_all, read_row, is_no_type, never_first, is_ready}
+use Rattle.ir_body.specs.Rows.{read_part, read_all, read_row, is_no_type, is_no_predicate, never_first, is_ready}
+use Rattle.ir_body.specs.Words.{predicate_of}
+use Rattle.ir_body.proofs.WordLaws.{predicate_there}
 use Rattle.ir_body.proofs.PartSound.{part_sound}
 use Rattle.ir_body.proofs.PartComplete.{is_plain, part_complete, last_complete, access_last, arms_last, offsets_last}
 
@@ -84,11 +87,22 @@ may_follows : (text other : List ℕ) (ps : List Part) (b : Bool) (ts first rest
 may_follows text other ps true ts first rest apart s is none = ap (after_word text) (is ∙ ap (λ us. us ++ rest) s) ∙ other_word text other rest apart
 may_follows text other ps false ts first rest apart s is none = ap (after_word text) (is ∙ ap (λ us. us ++ rest) s) ∙ none
 
+no_predicate : (text : List ℕ) (p : Predicate) → is_no_predicate (predicate_of text) ≡ true → bytes_eq (predicate_word p) text ≡ false
+no_predicate text p h = by (bytes_eq (predicate_word p) text) refl
+  where
+    clash : is_no_predicate (Some p) ≡ true → ⊥
+    clash e = cc
+
+    by : (b : Bool) → bytes_eq (predicate_word p) text ≡ b → bytes_eq (predicate_word p) text ≡ false
+    by false e = e
+    by true e = absurd (clash (sym (ap is_no_predicate (sym (ap predicate_of (text_is (predicate_word p) text e)) ∙ predicate_there p)) ∙ h))
+
 never_follows : (text : List ℕ) (ps : List Part) → never_first text ps ≡ true → (got : AllGot ps) (ts : List Tok) → SpellsAll ps got ts → after_word text ts ≡ None
 never_follows text [] h got ts s = cc
 never_follows text (may other ∷ ps) h got ts s =
     let p = both_true (not (bytes_eq other text)) (never_first text ps) h in
     may_follows text other ps got.0 ts s.0 s.1 (not_true (bytes_eq other text) p.0) s.2 s.4 (never_follows text ps p.1 got.1 s.1 s.3)
+never_follows text (predicate ∷ ps) h got ts s = ap (after_word text) (s.4 ∙ ap (λ us. us ++ s.1) s.2) ∙ other_word text (predicate_word got.0) s.1 (no_predicate text got.0 h)
 never_follows text (width_pair ∷ ps) h got ts s =
     let pair = s.2 in
     ap (after_word text) (s.4 ∙ ap (λ us. us ++ s.1) pair.4 ∙ append_assoc pair.0 (mark 44 ∷ pair.1) s.1)

@@ -1,6 +1,7 @@
 -- Productions read part by part.
 use Rattle.std.specs.Prelude.{ℕ, Bool, true, false, not, ◌&&◌, Option, Some, None, List, [], ◌∷◌, codes, bytes_eq}
 use Rattle.ir_ast.specs.Program.{Act}
+use Rattle.ir_ast.specs.declared.instr.Predicate.{Predicate}
 use Rattle.ir_lex.specs.Decimal.{width_of}
 use Rattle.ir_lex.specs.Tok.{Tok}
 use Rattle.ir_lex.specs.Parts.{Part, sign, key, may, width, over, returned, callee, register, predicate, target, part, bit, place, width_value, width_pair, typed, typed_pair, twice, alignment, access, arms, offsets, arguments, choices, Got, AllGot}
@@ -10,6 +11,7 @@ use Rattle.ir_part.specs.Fronts.{after_mark, after_word, flag_at, global_at, lab
 use Rattle.ir_part.specs.Numbers.{count_at, width_at, align_at}
 use Rattle.ir_part.specs.Types.{type_at, result_at}
 use Rattle.ir_part.specs.Operands.{typed_at}
+use Rattle.ir_body.specs.Words.{predicate_of}
 use Rattle.ir_body.specs.Parts.{register_at, predicate_at, bit_at, place_at, width_value_at, width_pair_at, typed_pair_at, twice_at, access_at, arms_at, offsets_at, arguments_at, choices_at}
 use Rattle.ir_body.specs.declared.operation.Operation.{Operation}
 use Rattle.ir_body.specs.declared.operation.Operation.TheVariants.{Wrapping, Exacting, Simple, Or, Icmp, Select, Trunc, Zext, Sext, Freeze, Phi, Alloca, Load, Store, GetElementPtr, Call, ExtractValue, Br, Switch, Ret, Unreachable}
@@ -104,8 +106,13 @@ abbrev pub is_no_type : List ℕ → Option ℕ → Bool
 is_no_type word (Some w) = false
 is_no_type word None = not (bytes_eq word (codes "ptr"))
 
+abbrev pub is_no_predicate : Option Predicate → Bool
+is_no_predicate (Some p) = false
+is_no_predicate None = true
+
 abbrev pub never_first : List ℕ → List Part → Bool
 never_first word (may other ∷ ps) = not (bytes_eq other word) && never_first word ps
+never_first word (predicate ∷ ps) = is_no_predicate (predicate_of word)
 never_first word (width_pair ∷ ps) = is_no_type word (width_of word)
 never_first word (width_value ∷ ps) = is_no_type word (width_of word)
 never_first word (over ∷ ps) = is_no_type word (width_of word)

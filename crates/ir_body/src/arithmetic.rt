@@ -128,16 +128,18 @@ pub fn disjoining<'t>(alloc: Global, tokens: &'t [Token<'t>]) -> Result<Op, Part
     })
 }
 
-/// `P T V , V`: T is iN or ptr, and for ptr P is none of the four signed ones.
+/// `[samesign] P T V , V`: T is iN or ptr, and for ptr P is none of the four signed ones, and there is no `samesign`.
 #[tactic(auto, unfolding(crate::specs::Rows::read_row))]
 pub fn comparing<'t>(alloc: Global, tokens: &'t [Token<'t>]) -> Result<Op, PartStop>
     ensures { Gives view_op result (read_row rows.comparing (seen tokens.now)) }
 {
-    let (predicate, rest) = predicate_at(tokens)?;
+    let (samesign, rest) = flag_at(b"samesign", tokens);
+    let (predicate, rest) = predicate_at(rest)?;
     let ((over, a, b), rest) = typed_pair_at(alloc, rest)?;
     end(rest)?;
-    if is_scalar(&over) && !(is_pointer_type(&over) && is_signed(predicate)) {
+    if is_scalar(&over) && !(is_pointer_type(&over) && (samesign || is_signed(predicate))) {
         Ok(Op::Compare {
+            samesign,
             predicate,
             over,
             a,
@@ -199,19 +201,29 @@ pub fn selecting<'t>(alloc: Global, tokens: &'t [Token<'t>]) -> Result<Op, PartS
     })
 }
 
-/// `iN V to iM`, narrower.
+/// `[nuw] [nsw] iN V to iM`, narrower.
 #[tactic(auto, unfolding(crate::specs::Rows::read_row))]
 pub fn truncating<'t>(alloc: Global, tokens: &'t [Token<'t>]) -> Result<Op, PartStop>
     ensures { Gives view_op result (read_row rows.truncating (seen tokens.now)) }
 {
-    let ((from, a), rest) = width_value_at(alloc, tokens)?;
+    let (nuw, rest) = flag_at(b"nuw", tokens);
+    let (nsw, rest) = flag_at(b"nsw", rest);
+    let ((from, a), rest) = width_value_at(alloc, rest)?;
     let rest = after_word(b"to", rest)?;
     let (to, rest) = width_at(rest)?;
     end(rest)?;
     if to < from {
+        let flags = Flags {
+            nuw,
+            nsw,
+            exact: false,
+            disjoint: false,
+            nneg: false,
+            inbounds: false,
+        };
         Ok(Op::Convert {
             kind: ConvertKind::Trunc,
-            flags: no_flags(),
+            flags,
             from,
             to,
             a,

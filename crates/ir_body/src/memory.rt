@@ -12,7 +12,7 @@ use crate::part::{access_at, place_at, register_at};
 use ir_ast::{Gep, Op, TypedList};
 use ir_lex::Token;
 use ir_part::{
-    PartStop, after_mark, after_word, align_at, count_at, end, flag_at, global_at, inbounds_only,
+    PartStop, after_mark, after_word, align_at, count_at, end, flag_at, global_at, offset_flags,
     result_at, type_at, typed_at, width_at,
 };
 use std::alloc::Global;
@@ -68,19 +68,24 @@ pub fn storing<'t>(alloc: Global, tokens: &'t [Token<'t>]) -> Result<Op, PartSto
     })
 }
 
-/// `[inbounds] T , ptr V , iN V , ..`
+/// `[inbounds [nuw]] T , ptr V , iN V , ..`
 #[tactic(auto, using(crate::proofs::Seen::indices_seen), unfolding(crate::specs::Rows::read_row))]
 pub fn addressing<'t>(alloc: Global, tokens: &'t [Token<'t>]) -> Result<Op, PartStop>
     ensures { Gives view_op result (read_row rows.addressing (seen tokens.now)) }
 {
     let (inbounds, rest) = flag_at(b"inbounds", tokens);
+    let (nuw, rest) = flag_at(b"nuw", rest);
     let (over, rest) = type_at(alloc, rest)?;
     let rest = after_mark(b',', rest)?;
     let (base, rest) = place_at(alloc, rest)?;
     let (indices, rest) = some_offsets(alloc, rest)?;
     end(rest)?;
-    let form = Gep::of(inbounds_only(inbounds), over, base, indices);
-    Ok(Op::Offset(form))
+    if inbounds || !nuw {
+        let form = Gep::of(offset_flags(inbounds, nuw), over, base, indices);
+        Ok(Op::Offset(form))
+    } else {
+        Err(PartStop::NotSpelled)
+    }
 }
 
 /// `R @NAME ( T V , .. )`

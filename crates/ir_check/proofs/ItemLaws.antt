@@ -224,7 +224,7 @@ access_by false o = λ e. clash e.0
 
 access_says : (s : Scope) (act : Act) → Says (access.is_pointer_access s act) (IsPointerAccess s act)
 access_says s (binary kind flags w a b) = λ p. p
-access_says s (compare predicate over a b) = λ p. p
+access_says s (compare samesign predicate over a b) = λ p. p
 access_says s (select condition over a b) = λ p. p
 access_says s (convert kind flags from to a) = λ p. p
 access_says s (freeze over a) = λ p. p

@@ -37,6 +37,7 @@ pub enum Act {
         b: Input,
     },
     Compare {
+        samesign: bool,
         predicate: Predicate,
         width: u32,
         a: Input,
@@ -54,7 +55,7 @@ pub enum Act {
     },
     Convert {
         kind: ConvertKind,
-        nneg: bool,
+        flags: Flags,
         from: u32,
         to: u32,
         a: Input,

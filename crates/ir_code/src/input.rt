@@ -25,6 +25,7 @@ pub enum Move {
     /// over the bytes before it.
     By {
         inbounds: bool,
+        nuw: bool,
         width: u32,
         each: u64,
         index: Base,

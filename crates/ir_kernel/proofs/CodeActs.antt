@@ -34,9 +34,9 @@ compared_plain : (p : Predicate) (pointers : Bool) (x y : Input) → IsPlain (co
 compared_plain p true x y = record { nowhere = refl; none = refl }
 compared_plain p false x y = record { nowhere = refl; none = refl }
 
-compare_plain : (m : ModuleView) (f : FunctionView) (p : Predicate) (w : Option ℕ) (pointers : Bool) (a b : Val) → IsPlain (compare_by m f p w pointers a b)
-compare_plain m f p (Some w) pointers a b = record { nowhere = refl; none = refl }
-compare_plain m f p None pointers a b = compared_plain p pointers (input_of m f None a) (input_of m f None b)
+compare_plain : (m : ModuleView) (f : FunctionView) (samesign : Bool) (p : Predicate) (w : Option ℕ) (pointers : Bool) (a b : Val) → IsPlain (compare_by m f samesign p w pointers a b)
+compare_plain m f samesign p (Some w) pointers a b = record { nowhere = refl; none = refl }
+compare_plain m f samesign p None pointers a b = compared_plain p pointers (input_of m f None a) (input_of m f None b)
 
 load_plain : (m : ModuleView) (f : FunctionView) (t : Ty) (target : Val) (align : ℕ) (spans : Option (List Span)) (slot : Option ℕ) → IsPlain (load_by m f t target align spans slot)
 load_plain m f t target align spans None = record { nowhere = refl; none = refl }
@@ -90,7 +90,7 @@ module _ (m : ModuleView) (f : FunctionView) where
 
   pub targets_are : (a : plain.Act) → targets (act_of m f a) ≡ map (block_place f) (rows.targets a)
   targets_are (plain.binary kind flags w a b) = refl
-  targets_are (plain.compare p over a b) = (compare_plain m f p (width_in m over) (is_pointer (meant m.types over)) a b).nowhere
+  targets_are (plain.compare samesign p over a b) = (compare_plain m f samesign p (width_in m over) (is_pointer (meant m.types over)) a b).nowhere
   targets_are (plain.select c over a b) = refl
   targets_are (plain.convert kind flags from to a) = refl
   targets_are (plain.freeze over a) = refl
@@ -186,7 +186,7 @@ module _ (m : ModuleView) (f : FunctionView) where
 
   pub called_by_name : (a : plain.Act) (g : ℕ) → Contains (callees (act_of m f a)) g → IsCalled m a g
   called_by_name (plain.call over name arguments) g c = call_called over name arguments g (body_place m name) (is_some (intrinsic_of name)) refl c
-  called_by_name (plain.compare p over a b) g c = none_called _ g (compare_plain m f p (width_in m over) (is_pointer (meant m.types over)) a b).none c
+  called_by_name (plain.compare samesign p over a b) g c = none_called _ g (compare_plain m f samesign p (width_in m over) (is_pointer (meant m.types over)) a b).none c
   called_by_name (plain.load over target align range) g c =
       none_called _ g (load_plain m f (meant m.types over) target align (spans_of m (number_width (meant m.types over)) range) (slot_place f target)).none c
   called_by_name (plain.store over v target align) g c = none_called _ g (store_plain m f (meant m.types over) v target align (slot_place f target)).none c
@@ -198,7 +198,7 @@ module _ (m : ModuleView) (f : FunctionView) where
   pub weighs : (E : ℕ → ℕ) (L : List ℕ → ℕ) (a : plain.Act) → ((x : List ℕ) → has_body m x ≡ true → E (function_place m x) ≡ L x)
       → weight E (act_of m f a) ≤ 1 + sum (map L (rows.callees a))
   weighs E L (plain.call over name arguments) same = call_weighs over name arguments E L (body_place m name) (is_some (intrinsic_of name)) refl same
-  weighs E L (plain.compare p over a b) same = omega (arith, light E _ (compare_plain m f p (width_in m over) (is_pointer (meant m.types over)) a b).none)
+  weighs E L (plain.compare samesign p over a b) same = omega (arith, light E _ (compare_plain m f samesign p (width_in m over) (is_pointer (meant m.types over)) a b).none)
   weighs E L (plain.load over target align range) same =
       omega (arith, light E _ (load_plain m f (meant m.types over) target align (spans_of m (number_width (meant m.types over)) range) (slot_place f target)).none)
   weighs E L (plain.store over v target align) same = omega (arith, light E _ (store_plain m f (meant m.types over) v target align (slot_place f target)).none)

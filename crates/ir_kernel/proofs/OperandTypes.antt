@@ -6,6 +6,7 @@ use Rattle.std.proofs.Math.Nat.{mod-lt}
 use Rattle.std.proofs.lemmas.Nat.{pow_pos}
 use Rattle.std.proofs.lemmas.Bool.{lt-ltb, eqb-true}
 use Rattle.std.proofs.lemmas.List.Elements.{Contains-append_left, Contains-append_right}
+use Rattle.ir_ast.specs.declared.operand.Flags.{Flags}
 use Rattle.ir_ast.specs.Plain.{Ty, Tys, no_types, type_and, nothing, integer, pointer, array, structure, packed, named, opaque, Val, Form, Indices, local, global, number, null, poison, address, form, no_indices, index_and}
 use Rattle.ir_ast.specs.Program.{FunctionView, ModuleView}
 use Rattle.ir_ast.specs.Table.{names_of, place_of}
@@ -112,9 +113,9 @@ module _ (memory : Memory) (rs : Registers) where
   begin_goes : (inbounds : Bool) → Goes memory rs (Begin inbounds)
   begin_goes inbounds v x = begin_makes inbounds (size_at memory v) v
 
-  index_goes : (inbounds : Bool) (w each : ℕ) (t : Ty) (o : Option Value) (v : Value) → IsValueOf t o → IsValueOf pointer (stepped memory inbounds w each o v)
-  index_goes inbounds w each t None v x = absurd x
-  index_goes inbounds w each t (Some i) v x = step_makes inbounds (size_at memory v) w each i v
+  index_goes : (inbounds nuw : Bool) (w each : ℕ) (t : Ty) (o : Option Value) (v : Value) → IsValueOf t o → IsValueOf pointer (stepped memory inbounds nuw w each o v)
+  index_goes inbounds nuw w each t None v x = absurd x
+  index_goes inbounds nuw w each t (Some i) v x = step_makes inbounds nuw (size_at memory v) w each i v
 
 module _ (m : ModuleView) (f : FunctionView) (memory : Memory) (rs : Registers) where
   abbrev s : Scope
@@ -206,8 +207,8 @@ module _ (m : ModuleView) (f : FunctionView) (memory : Memory) (rs : Registers) 
   index_holds (integer w) (address a) n good e = absurd cc
   index_holds t (address a) n good e = absurd cc
 
-  goes_index : (inbounds : Bool) (each : ℕ) (t : Ty) (v : Val) → is_integer t ≡ true → AreGood (leaves_of v) → fits s t v ≡ true → Goes memory rs (index_move m f inbounds each (width_of t) v)
-  goes_index inbounds each t v n good e a x = index_goes memory rs inbounds (unwrap_or (width_of t) 0) each t (base_value rs (base_of m f (width_of t) v)) a (index_holds t v n good e)
+  goes_index : (flags : Flags) (each : ℕ) (t : Ty) (v : Val) → is_integer t ≡ true → AreGood (leaves_of v) → fits s t v ≡ true → Goes memory rs (index_move m f flags each (width_of t) v)
+  goes_index flags each t v n good e a x = index_goes memory rs flags.inbounds flags.nuw (unwrap_or (width_of t) 0) each t (base_value rs (base_of m f (width_of t) v)) a (index_holds t v n good e)
 
   -- the field of a struct that an index chooses
   record IsField (ts : Tys) (over : Ty) (v : Val) (u : Ty) : Type 0 where
@@ -223,19 +224,19 @@ module _ (m : ModuleView) (f : FunctionView) (memory : Memory) (rs : Registers) 
       record { place = modulo 32 n; chosen = c.0; is = known.0; below = known.1 }
   field_there ts over v u e = absurd cc
 
-  field_goes : (inbounds : Bool) (t over : Ty) (v : Val) (k : ℕ) → field_index (width_in m over) v ≡ Some k → nat_lt k (fields_in t) ≡ true
-      → Goes memory rs (field_move inbounds (option_and_then (offset_at t) (field_index (width_in m over) v)))
-  field_goes inbounds t over v k e l =
-      subst (λ o. Goes memory rs (field_move inbounds (option_and_then (offset_at t) o))) (sym e)
-      (subst (λ b. Goes memory rs (field_move inbounds (if b then Some (cut (field_offset t k)) else None))) (sym l)
-      (λ a x. index_goes memory rs inbounds 64 (cut (field_offset t k)) (integer 64) (Some (Number 1)) a refl))
+  field_goes : (flags : Flags) (t over : Ty) (v : Val) (k : ℕ) → field_index (width_in m over) v ≡ Some k → nat_lt k (fields_in t) ≡ true
+      → Goes memory rs (field_move flags (option_and_then (offset_at t) (field_index (width_in m over) v)))
+  field_goes flags t over v k e l =
+      subst (λ o. Goes memory rs (field_move flags (option_and_then (offset_at t) o))) (sym e)
+      (subst (λ b. Goes memory rs (field_move flags (if b then Some (cut (field_offset t k)) else None))) (sym l)
+      (λ a x. index_goes memory rs flags.inbounds flags.nuw 64 (cut (field_offset t k)) (integer 64) (Some (Number 1)) a refl))
 
-  part_goes : (inbounds : Bool) (t over : Ty) (v : Val) (u : Ty) → part_at t over v ≡ Some u → ((each : ℕ) → Goes memory rs (index_move m f inbounds each (width_in m over) v))
-      → Goes memory rs (move_from m f inbounds (Some t) (width_in m over) v)
-  part_goes inbounds (array n t) over v u e go = go (cut (size_of t))
-  part_goes inbounds (structure ts) over v u e go = let k = field_there ts over v u e in field_goes inbounds (structure ts) over v k.place k.chosen k.below
-  part_goes inbounds (packed ts) over v u e go = let k = field_there ts over v u e in field_goes inbounds (packed ts) over v k.place k.chosen k.below
-  part_goes inbounds t over v u e go = absurd cc
+  part_goes : (flags : Flags) (t over : Ty) (v : Val) (u : Ty) → part_at t over v ≡ Some u → ((each : ℕ) → Goes memory rs (index_move m f flags each (width_in m over) v))
+      → Goes memory rs (move_from m f flags (Some t) (width_in m over) v)
+  part_goes flags (array n t) over v u e go = go (cut (size_of t))
+  part_goes flags (structure ts) over v u e go = let k = field_there ts over v u e in field_goes flags (structure ts) over v k.place k.chosen k.below
+  part_goes flags (packed ts) over v u e go = let k = field_there ts over v u e in field_goes flags (packed ts) over v k.place k.chosen k.below
+  part_goes flags t over v u e go = absurd cc
 
   part_same : (t over : Ty) (v : Val) (u : Ty) → part_at t over v ≡ Some u → part_from (Some t) (width_in m over) v ≡ Some u
   part_same (array n t) over v u e = e
@@ -247,10 +248,10 @@ module _ (m : ModuleView) (f : FunctionView) (memory : Memory) (rs : Registers) 
   some_part None is e = absurd cc
   some_part (Some u) is e = (u, refl)
 
-  parts_go : (inbounds : Bool) (is : Indices) (t : Ty) → steps (Some t) is ≡ true → indices_fit s is ≡ true → AreGood (index_leaves_of is)
-      → AllByRecursion (Goes memory rs) (part_moves m f inbounds (Some t) is)
-  parts_go inbounds no_indices t e n good = tt
-  parts_go inbounds (index_and over v is) t e n good =
+  parts_go : (flags : Flags) (is : Indices) (t : Ty) → steps (Some t) is ≡ true → indices_fit s is ≡ true → AreGood (index_leaves_of is)
+      → AllByRecursion (Goes memory rs) (part_moves m f flags (Some t) is)
+  parts_go flags no_indices t e n good = tt
+  parts_go flags (index_and over v is) t e n good =
       let p = some_part (part_at t over v) is e in
       let two = left_of (is_integer (meant m.types over) && fits s (meant m.types over) v) (indices_fit s is) n in
       let whole_index = left_of (is_integer (meant m.types over)) (fits s (meant m.types over) v) two in
@@ -258,15 +259,15 @@ module _ (m : ModuleView) (f : FunctionView) (memory : Memory) (rs : Registers) 
       let later = right_of (is_integer (meant m.types over) && fits s (meant m.types over) v) (indices_fit s is) n in
       let own : AreGood (leaves_of v) = λ l c. good l (Contains-append_left (leaves_of v) (index_leaves_of is) l c) in
       let others : AreGood (index_leaves_of is) = λ l c. good l (Contains-append_right (leaves_of v) (index_leaves_of is) l c) in
-      let rest = parts_go inbounds is p.0 (subst (λ o. steps o is ≡ true) p.1 e) later others in (
-        part_goes inbounds t over v p.0 p.1 (λ each. goes_index inbounds each (meant m.types over) v whole_index own fitting),
-        subst (λ o. AllByRecursion (Goes memory rs) (part_moves m f inbounds o is)) (sym (part_same t over v p.0 p.1)) rest,
+      let rest = parts_go flags is p.0 (subst (λ o. steps o is ≡ true) p.1 e) later others in (
+        part_goes flags t over v p.0 p.1 (λ each. goes_index flags each (meant m.types over) v whole_index own fitting),
+        subst (λ o. AllByRecursion (Goes memory rs) (part_moves m f flags o is)) (sym (part_same t over v p.0 p.1)) rest,
       )
 
-  moves_go : (inbounds : Bool) (over : Ty) (is : Indices) → steps_over (whole m.types over) is ≡ true → indices_fit s is ≡ true → AreGood (index_leaves_of is)
-      → AllByRecursion (Goes memory rs) (moves_of m f inbounds (meant m.types over) is)
-  moves_go inbounds over no_indices e n good = (begin_goes memory rs inbounds, tt)
-  moves_go inbounds over (index_and t v is) e n good =
+  moves_go : (flags : Flags) (over : Ty) (is : Indices) → steps_over (whole m.types over) is ≡ true → indices_fit s is ≡ true → AreGood (index_leaves_of is)
+      → AllByRecursion (Goes memory rs) (moves_of m f flags (meant m.types over) is)
+  moves_go flags over no_indices e n good = (begin_goes memory rs flags.inbounds, tt)
+  moves_go flags over (index_and t v is) e n good =
       let p = some_part (whole m.types over) is e in
       let same : meant m.types over ≡ p.0 = ap (λ o. unwrap_or o opaque) p.1 in
       let two = left_of (is_integer (meant m.types t) && fits s (meant m.types t) v) (indices_fit s is) n in
@@ -276,8 +277,8 @@ module _ (m : ModuleView) (f : FunctionView) (memory : Memory) (rs : Registers) 
       let own : AreGood (leaves_of v) = λ l c. good l (Contains-append_left (leaves_of v) (index_leaves_of is) l c) in
       let others : AreGood (index_leaves_of is) = λ l c. good l (Contains-append_right (leaves_of v) (index_leaves_of is) l c) in
       let told : steps (Some (meant m.types over)) is ≡ true = subst (λ u. steps (Some u) is ≡ true) (sym same) (subst (λ o. steps o is ≡ true) p.1 e) in (
-        begin_goes memory rs inbounds,
-        (goes_index inbounds (cut (size_of (meant m.types over))) (meant m.types t) v whole_index own fitting, parts_go inbounds is (meant m.types over) told later others),
+        begin_goes memory rs flags.inbounds,
+        (goes_index flags (cut (size_of (meant m.types over))) (meant m.types t) v whole_index own fitting, parts_go flags is (meant m.types over) told later others),
       )
 
   -- ---- operands
@@ -298,10 +299,10 @@ module _ (m : ModuleView) (f : FunctionView) (memory : Memory) (rs : Registers) 
         let stepping = right_of (fits s pointer base && indices_fit s is && not (has_odd (meant m.types over))) (steps_over (whole m.types over) is) e in
         let two = left_of (fits s pointer base && indices_fit s is) (not (has_odd (meant m.types over))) three in
         let first = input_holds pointer base (λ l c. good l (Contains-append_left (leaves_of base) (index_leaves_of is) l c)) (left_of (fits s pointer base) (indices_fit s is) two) in
-        let moves = moves_go flags.inbounds over is stepping (right_of (fits s pointer base) (indices_fit s is) two) (λ l c. good l (Contains-append_right (leaves_of base) (index_leaves_of is) l c)) in
+        let moves = moves_go flags over is stepping (right_of (fits s pointer base) (indices_fit s is) two) (λ l c. good l (Contains-append_right (leaves_of base) (index_leaves_of is) l c)) in
         let i : Input = input_of m f None base in
-        subst (IsValueOf pointer) (sym (moved_on memory rs i.moves (moves_of m f flags.inbounds (meant m.types over) is) (base_value rs i.base)))
-        (all_go memory rs (moves_of m f flags.inbounds (meant m.types over) is) (value_of memory rs i) moves first)
+        subst (IsValueOf pointer) (sym (moved_on memory rs i.moves (moves_of m f flags (meant m.types over) is) (base_value rs i.base)))
+        (all_go memory rs (moves_of m f flags (meant m.types over) is) (value_of memory rs i) moves first)
 
   pub operand_holds : (t : Ty) (v : Val) → IsReady m f rs v → fits s t v ≡ true → IsValueOf t (value_of memory rs (input_of m f (width_of t) v))
   operand_holds t v ready e = input_holds t v good e

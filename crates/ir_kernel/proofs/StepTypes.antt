@@ -86,23 +86,23 @@ module _ (m : ModuleView) (f : FunctionView) (memory : Memory) (objects : List O
     pub ready : (v : Val) → Contains (values a) v → IsReady m f rs v
     pub widths : (t : Ty) (w : ℕ) → Contains (map (λ p. p.0) (operands a)) t → meant m.types t ≡ integer w → is_width w ≡ true
 
-  compare_gives : (predicate : Rattle.ir_ast.specs.declared.instr.Predicate.Predicate) (over : Ty) (a b : Val) → IsAtHand (plain.compare predicate over a b) → gives (plain.compare predicate over a b)
-  compare_gives predicate (integer w) a b h =
-      two_make m.types (integer 1) (integer w) (integer w) (compare_numbers predicate w) (input (integer w) a) (input (integer w) b)
+  compare_gives : (samesign : Bool) (predicate : Rattle.ir_ast.specs.declared.instr.Predicate.Predicate) (over : Ty) (a b : Val) → IsAtHand (plain.compare samesign predicate over a b) → gives (plain.compare samesign predicate over a b)
+  compare_gives samesign predicate (integer w) a b h =
+      two_make m.types (integer 1) (integer w) (integer w) (compare_numbers samesign predicate w) (input (integer w) a) (input (integer w) b)
       (operand_holds m f memory rs (integer w) a (h.ready a (0, omega arith, refl)) (left_of (fits s (integer w) a) (fits s (integer w) b && true) h.all))
       (operand_holds m f memory rs (integer w) b (h.ready b (1, omega arith, refl)) (left_of (fits s (integer w) b) true (right_of (fits s (integer w) a) (fits s (integer w) b && true) h.all)))
-      (λ u v x y. compare_makes predicate w u v (h.widths (integer w) w (0, omega arith, refl) refl) x y)
-  compare_gives predicate pointer a b h =
+      (λ u v x y. compare_makes samesign predicate w u v (h.widths (integer w) w (0, omega arith, refl) refl) x y)
+  compare_gives samesign predicate pointer a b h =
       two_make m.types (integer 1) pointer pointer (compare_sized memory predicate) (input pointer a) (input pointer b)
       (operand_holds m f memory rs pointer a (h.ready a (0, omega arith, refl)) (left_of (fits s pointer a) (fits s pointer b && true) h.all))
       (operand_holds m f memory rs pointer b (h.ready b (1, omega arith, refl)) (left_of (fits s pointer b) true (right_of (fits s pointer a) (fits s pointer b && true) h.all)))
       (λ u v x y. compare_pointers_makes predicate (size_at memory u) (size_at memory v) u v x y)
-  compare_gives predicate nothing a b h = let n = h.noted in absurd cc
-  compare_gives predicate (array n t) a b h = let n = h.noted in absurd cc
-  compare_gives predicate (structure ts) a b h = let n = h.noted in absurd cc
-  compare_gives predicate (packed ts) a b h = let n = h.noted in absurd cc
-  compare_gives predicate (named x) a b h = let n = h.noted in absurd cc
-  compare_gives predicate opaque a b h = let n = h.noted in absurd cc
+  compare_gives samesign predicate nothing a b h = let n = h.noted in absurd cc
+  compare_gives samesign predicate (array n t) a b h = let n = h.noted in absurd cc
+  compare_gives samesign predicate (structure ts) a b h = let n = h.noted in absurd cc
+  compare_gives samesign predicate (packed ts) a b h = let n = h.noted in absurd cc
+  compare_gives samesign predicate (named x) a b h = let n = h.noted in absurd cc
+  compare_gives samesign predicate opaque a b h = let n = h.noted in absurd cc
 
   act_gives : (a : plain.Act) → is_computation a ≡ true → IsAtHand a → gives a
   act_gives (plain.binary kind flags w a b) c h =
@@ -110,7 +110,7 @@ module _ (m : ModuleView) (f : FunctionView) (memory : Memory) (objects : List O
       (operand_holds m f memory rs (integer w) a (h.ready a (0, omega arith, refl)) (left_of (fits s (integer w) a) (fits s (integer w) b && true) h.all))
       (operand_holds m f memory rs (integer w) b (h.ready b (1, omega arith, refl)) (left_of (fits s (integer w) b) true (right_of (fits s (integer w) a) (fits s (integer w) b && true) h.all)))
       (λ u v x y. binary_makes flags kind w u v h.noted x y)
-  act_gives (plain.compare predicate over a b) c h = compare_gives predicate over a b h
+  act_gives (plain.compare samesign predicate over a b) c h = compare_gives samesign predicate over a b h
   act_gives (plain.select condition over a b) c h =
       let t = meant m.types over in
       let rest = right_of (fits s (integer 1) condition) (fits s t a && (fits s t b && true)) h.all in
@@ -121,9 +121,9 @@ module _ (m : ModuleView) (f : FunctionView) (memory : Memory) (objects : List O
       (λ u v z x y k. select_makes t u v z x y k)
   act_gives (plain.convert kind flags from to a) c h =
       let both = left_of (shape.is_width from && shape.is_width to) (shape.is_narrower kind from to) h.noted in
-      one_makes m.types (integer to) (integer from) (convert flags.nneg kind from to) (input (integer from) a)
+      one_makes m.types (integer to) (integer from) (convert flags kind from to) (input (integer from) a)
       (operand_holds m f memory rs (integer from) a (h.ready a (0, omega arith, refl)) (left_of (fits s (integer from) a) true h.all))
-      (λ v x. convert_makes flags.nneg kind from to v (left_of (shape.is_width from) (shape.is_width to) both) (right_of (shape.is_width from) (shape.is_width to) both)
+      (λ v x. convert_makes flags kind from to v (left_of (shape.is_width from) (shape.is_width to) both) (right_of (shape.is_width from) (shape.is_width to) both)
       (right_of (shape.is_width from && shape.is_width to) (shape.is_narrower kind from to) h.noted) x)
   act_gives (plain.freeze over a) c h =
       let t = meant m.types over in

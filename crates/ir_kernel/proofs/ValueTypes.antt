@@ -24,8 +24,8 @@ use Rattle.ir_value.specs.declared.intrinsics.OverflowKind.{OverflowKind}
 use Rattle.ir_value.specs.declared.intrinsics.OverflowKind.TheVariants as overflow
 use Rattle.ir_value.specs.declared.intrinsics.PairKind.{PairKind}
 use Rattle.ir_value.specs.declared.intrinsics.PairKind.TheVariants as two
-use Rattle.ir_value.specs.Numbers.{is_width, is_number, is_narrower, is_division, is_signed_division, is_minus_one, is_least, takes, unless, truth, holds, of_numbers, by_poison, binary_of, binary, compare_of, compare_numbers, convert_number, convert_of, convert, freeze, select}
-use Rattle.ir_value.specs.Pointers.{is_equality, is_pointer, compare_within, compare_known, compare_pointers, is_within, is_no_move, move_by, begin_at, step_of, added_by}
+use Rattle.ir_value.specs.Numbers.{is_width, is_number, is_narrower, is_division, is_signed_division, is_minus_one, is_least, takes, unless, truth, holds, signs_differ, of_numbers, by_poison, binary_of, binary, compare_of, compare_numbers, convert_number, convert_of, convert, freeze, select}
+use Rattle.ir_value.specs.Pointers.{is_equality, is_pointer, compare_within, compare_known, compare_pointers, is_within, is_no_move, move_by, begin_at, signed_step, wraps, step_of, added_by}
 use Rattle.ir_value.specs.Intrinsics.{wrapped, overflowed, overflow_of, with_overflow, pick, pair_numbers, pair_of, second_width, pair}
 use Rattle.ir_kernel.specs.Typed.{is_of, MakesOf}
 
@@ -90,21 +90,21 @@ binary_makes f kind w a b width x y =
 
 -- ---- comparisons
 
-comparison_makes : (p : Predicate) (w : ℕ) (a b : Value) → takes w a ≡ true → takes w b ≡ true → MakesOf (integer 1) (compare_of p w a b)
-comparison_makes p w (Number a) (Number b) x y = truth_makes (holds p w a b)
-comparison_makes p w (Number a) Poison x y = refl
-comparison_makes p w (Number a) Null x y = absurd cc
-comparison_makes p w (Number a) (Address o z) x y = absurd cc
-comparison_makes p w Poison (Number b) x y = refl
-comparison_makes p w Poison Poison x y = refl
-comparison_makes p w Poison Null x y = absurd cc
-comparison_makes p w Poison (Address o z) x y = absurd cc
-comparison_makes p w Null b x y = absurd cc
-comparison_makes p w (Address o z) b x y = absurd cc
+comparison_makes : (samesign : Bool) (p : Predicate) (w : ℕ) (a b : Value) → takes w a ≡ true → takes w b ≡ true → MakesOf (integer 1) (compare_of samesign p w a b)
+comparison_makes samesign p w (Number a) (Number b) x y = either (integer 1) (samesign && signs_differ w a b) (Gives Poison) (Gives (Number (truth (holds p w a b)))) refl (truth_makes (holds p w a b))
+comparison_makes samesign p w (Number a) Poison x y = refl
+comparison_makes samesign p w (Number a) Null x y = absurd cc
+comparison_makes samesign p w (Number a) (Address o z) x y = absurd cc
+comparison_makes samesign p w Poison (Number b) x y = refl
+comparison_makes samesign p w Poison Poison x y = refl
+comparison_makes samesign p w Poison Null x y = absurd cc
+comparison_makes samesign p w Poison (Address o z) x y = absurd cc
+comparison_makes samesign p w Null b x y = absurd cc
+comparison_makes samesign p w (Address o z) b x y = absurd cc
 
-pub compare_makes : (p : Predicate) (w : ℕ) (a b : Value) → is_width w ≡ true → is_of (integer w) a ≡ true → is_of (integer w) b ≡ true → MakesOf (integer 1) (compare_numbers p w a b)
-compare_makes p w a b width x y =
-    asked (integer 1) (is_width w && (takes w a && takes w b)) (compare_of p w a b) (and_from (is_width w) _ width (and_from (takes w a) (takes w b) x y)) (comparison_makes p w a b x y)
+pub compare_makes : (samesign : Bool) (p : Predicate) (w : ℕ) (a b : Value) → is_width w ≡ true → is_of (integer w) a ≡ true → is_of (integer w) b ≡ true → MakesOf (integer 1) (compare_numbers samesign p w a b)
+compare_makes samesign p w a b width x y =
+    asked (integer 1) (is_width w && (takes w a && takes w b)) (compare_of samesign p w a b) (and_from (is_width w) _ width (and_from (takes w a) (takes w b) x y)) (comparison_makes samesign p w a b x y)
 
 says_makes : (b c : Bool) → MakesOf (integer 1) (if b then Gives (Number (truth c)) else Sticks U15)
 says_makes b c = either (integer 1) b (Gives (Number (truth c))) (Sticks U15) (truth_makes c) tt
@@ -165,30 +165,33 @@ move_makes inbounds size z (Number n) = refl
 pub begin_makes : (inbounds : Bool) (size : ℕ) (v : Value) → is_of pointer (begin_at inbounds size v) ≡ true
 begin_makes inbounds size v = move_makes inbounds size (pos 0) v
 
-pub step_makes : (inbounds : Bool) (size w each : ℕ) (i v : Value) → is_of pointer (step_of inbounds size w each i v) ≡ true
-step_makes inbounds size w each (Number n) v = if_pointer (is_width w && is_number w n) _ Poison (move_makes inbounds size (added_by w n each) v) refl
-step_makes inbounds size w each Null v = refl
-step_makes inbounds size w each (Address o x) v = refl
-step_makes inbounds size w each Poison v = refl
+signed_makes : (inbounds : Bool) (size w each : ℕ) (i v : Value) → is_pointer (signed_step inbounds size w each i v) ≡ true
+signed_makes inbounds size w each (Number n) v = if_pointer (is_width w && is_number w n) _ Poison (move_makes inbounds size (added_by w n each) v) refl
+signed_makes inbounds size w each Null v = refl
+signed_makes inbounds size w each (Address o x) v = refl
+signed_makes inbounds size w each Poison v = refl
+
+pub step_makes : (inbounds nuw : Bool) (size w each : ℕ) (i v : Value) → is_of pointer (step_of inbounds nuw size w each i v) ≡ true
+step_makes inbounds nuw size w each i v = if_pointer ((inbounds && nuw) && wraps w each i v) Poison _ refl (signed_makes inbounds size w each i v)
 
 -- ---- changes of width
 
-conversion_makes : (nneg : Bool) (kind : ConvertKind) (from to n : ℕ) → is_narrower kind from to ≡ true → n < 2 ^ from → MakesOf (integer to) (convert_number nneg kind from to n)
-conversion_makes nneg Trunc from to n e l = below to (n % 2 ^ to) (mod-lt n (pow_pos to))
-conversion_makes nneg Zext from to n e l = unless_makes to n _ (omega (arith, l, pow_below from to (ltb-true from to e)))
-conversion_makes nneg Sext from to n e l = below to (sign_extend from to n) (number_below to (signed_of from n))
+conversion_makes : (f : Flags) (kind : ConvertKind) (from to n : ℕ) → is_narrower kind from to ≡ true → n < 2 ^ from → MakesOf (integer to) (convert_number f kind from to n)
+conversion_makes f Trunc from to n e l = unless_makes to (n % 2 ^ to) _ (mod-lt n (pow_pos to))
+conversion_makes f Zext from to n e l = unless_makes to n _ (omega (arith, l, pow_below from to (ltb-true from to e)))
+conversion_makes f Sext from to n e l = below to (sign_extend from to n) (number_below to (signed_of from n))
 
-converted_makes : (nneg : Bool) (kind : ConvertKind) (from to : ℕ) (a : Value) → is_narrower kind from to ≡ true → takes from a ≡ true → MakesOf (integer to) (convert_of nneg kind from to a)
-converted_makes nneg kind from to (Number n) e x = conversion_makes nneg kind from to n e (number_of_width from n x)
-converted_makes nneg kind from to Poison e x = refl
-converted_makes nneg kind from to Null e x = absurd cc
-converted_makes nneg kind from to (Address o z) e x = absurd cc
+converted_makes : (f : Flags) (kind : ConvertKind) (from to : ℕ) (a : Value) → is_narrower kind from to ≡ true → takes from a ≡ true → MakesOf (integer to) (convert_of f kind from to a)
+converted_makes f kind from to (Number n) e x = conversion_makes f kind from to n e (number_of_width from n x)
+converted_makes f kind from to Poison e x = refl
+converted_makes f kind from to Null e x = absurd cc
+converted_makes f kind from to (Address o z) e x = absurd cc
 
-pub convert_makes : (nneg : Bool) (kind : ConvertKind) (from to : ℕ) (a : Value) → is_width from ≡ true → is_width to ≡ true → is_narrower kind from to ≡ true → is_of (integer from) a ≡ true
-    → MakesOf (integer to) (convert nneg kind from to a)
-convert_makes nneg kind from to a x y e z =
-    asked (integer to) ((is_width from && is_width to) && (is_narrower kind from to && takes from a)) (convert_of nneg kind from to a)
-    (and_from (is_width from && is_width to) _ (and_from (is_width from) (is_width to) x y) (and_from (is_narrower kind from to) (takes from a) e z)) (converted_makes nneg kind from to a e z)
+pub convert_makes : (f : Flags) (kind : ConvertKind) (from to : ℕ) (a : Value) → is_width from ≡ true → is_width to ≡ true → is_narrower kind from to ≡ true → is_of (integer from) a ≡ true
+    → MakesOf (integer to) (convert f kind from to a)
+convert_makes f kind from to a x y e z =
+    asked (integer to) ((is_width from && is_width to) && (is_narrower kind from to && takes from a)) (convert_of f kind from to a)
+    (and_from (is_width from && is_width to) _ (and_from (is_width from) (is_width to) x y) (and_from (is_narrower kind from to) (takes from a) e z)) (converted_makes f kind from to a e z)
 
 -- ---- intrinsics
 

@@ -32,7 +32,7 @@ ComputesOf types kind Lost = ⊥
 -- neither a jump nor a call, and no load, store or part of a pair
 abbrev pub is_computation : Act → Bool
 is_computation (binary kind flags w a b) = true
-is_computation (compare predicate over a b) = true
+is_computation (compare samesign predicate over a b) = true
 is_computation (select condition over a b) = true
 is_computation (convert kind flags from to a) = true
 is_computation (freeze over a) = true

@@ -63,10 +63,10 @@ pub fn runs_of_kernels_end()
 /// Of operands of its types an instruction makes a value of its type, or the run is stuck. Nothing is lost.
 pub fn instructions_make_values_of_their_types()
     ensures binary { (f : Flags) (kind : BinaryKind) (w : ℕ) (a b : Value) → is_width w ≡ true → is_of (integer w) a ≡ true → is_of (integer w) b ≡ true → MakesOf (integer w) (numbers.binary f kind w a b) }
-    ensures compare { (p : Predicate) (w : ℕ) (a b : Value) → is_width w ≡ true → is_of (integer w) a ≡ true → is_of (integer w) b ≡ true → MakesOf (integer 1) (numbers.compare_numbers p w a b) }
+    ensures compare { (samesign : Bool) (p : Predicate) (w : ℕ) (a b : Value) → is_width w ≡ true → is_of (integer w) a ≡ true → is_of (integer w) b ≡ true → MakesOf (integer 1) (numbers.compare_numbers samesign p w a b) }
     ensures compare_pointers { (p : Predicate) (m n : ℕ) (a b : Value) → is_of pointer a ≡ true → is_of pointer b ≡ true → MakesOf (integer 1) (pointers.compare_pointers p m n a b) }
-    ensures convert { (nneg : Bool) (kind : ConvertKind) (from to : ℕ) (a : Value) → is_width from ≡ true → is_width to ≡ true → numbers.is_narrower kind from to ≡ true → is_of (integer from) a ≡ true →
-        MakesOf (integer to) (numbers.convert nneg kind from to a) }
+    ensures convert { (f : Flags) (kind : ConvertKind) (from to : ℕ) (a : Value) → is_width from ≡ true → is_width to ≡ true → numbers.is_narrower kind from to ≡ true → is_of (integer from) a ≡ true →
+        MakesOf (integer to) (numbers.convert f kind from to a) }
     ensures select { (t : Ty) (c a b : Value) → is_of (integer 1) c ≡ true → is_of t a ≡ true → is_of t b ≡ true → MakesOf t (numbers.select c a b) }
     ensures freeze { (t : Ty) (a : Value) → is_of t a ≡ true → MakesOf t (numbers.freeze a) }
     ensures number { (kind : OverflowKind) (signed : Bool) (w : ℕ) (a b : Value) → is_width w ≡ true → is_of (integer w) a ≡ true → is_of (integer w) b ≡ true →
@@ -76,7 +76,7 @@ pub fn instructions_make_values_of_their_types()
     ensures pair { (kind : PairKind) (w : ℕ) (a b : Value) → is_width w ≡ true → is_of (integer w) a ≡ true → is_of (integer (intrinsics.second_width kind w)) b ≡ true →
         MakesOf (integer w) (intrinsics.pair kind w a b) }
     ensures begin { (inbounds : Bool) (size : ℕ) (v : Value) → is_of pointer (pointers.begin_at inbounds size v) ≡ true }
-    ensures steps { (inbounds : Bool) (size w each : ℕ) (i v : Value) → is_of pointer (pointers.step_of inbounds size w each i v) ≡ true }
+    ensures steps { (inbounds nuw : Bool) (size w each : ℕ) (i v : Value) → is_of pointer (pointers.step_of inbounds nuw size w each i v) ≡ true }
 {}
 
 /// An operand that fits a whole type, whose registers hold what their kinds ask and whose globals are known, has a value of the type.

@@ -1,7 +1,7 @@
 //! What operations on values give: the calls of `ir_value` that rows name.
 
 use crate::words::{
-    bounds, conversion, long, operation, overflow, pair_kind, predicate, short, value,
+    bounds, comparison, conversion, long, operation, overflow, pair_kind, predicate, short, value,
 };
 use ir_value::{
     Access, Made, Value, assumes, begin, binary, compare_numbers, compare_pointers, convert,
@@ -15,7 +15,8 @@ fn binary_row(over: &str, w: &str, a: &str, b: &str) -> Option<Made> {
 }
 
 fn numbers_row(over: &str, w: &str, a: &str, b: &str) -> Option<Made> {
-    Some(compare_numbers(predicate(over)?, short(w)?, value(a)?, value(b)?))
+    let (samesign, over) = comparison(over)?;
+    Some(compare_numbers(samesign, over, short(w)?, value(a)?, value(b)?))
 }
 
 fn pointers_row(over: &str, size_a: &str, size_b: &str, a: &str, b: &str) -> Option<Made> {
@@ -24,8 +25,8 @@ fn pointers_row(over: &str, size_a: &str, size_b: &str, a: &str, b: &str) -> Opt
 }
 
 fn convert_row(over: &str, from: &str, to: &str, a: &str) -> Option<Made> {
-    let (kind, nneg) = conversion(over)?;
-    Some(convert(nneg, kind, short(from)?, short(to)?, value(a)?))
+    let (kind, flags) = conversion(over)?;
+    Some(convert(flags, kind, short(from)?, short(to)?, value(a)?))
 }
 
 fn overflow_row(over: &str, w: &str, part: &str, a: &str, b: &str) -> Option<Made> {
@@ -38,13 +39,14 @@ fn pair_row(over: &str, w: &str, a: &str, b: &str) -> Option<Made> {
 }
 
 fn begin_row(over: &str, size: &str, base: &str) -> Option<Made> {
-    Some(Made::Gives(begin(bounds(over)?, long(size)?, value(base)?)))
+    let (inbounds, _) = bounds(over)?;
+    Some(Made::Gives(begin(inbounds, long(size)?, value(base)?)))
 }
 
 fn step_row(over: &str, size: &str, w: &str, each: &str, index: &str, base: &str) -> Option<Made> {
-    let (inbounds, size) = (bounds(over)?, long(size)?);
-    let (w, each) = (short(w)?, long(each)?);
-    Some(Made::Gives(step(inbounds, size, w, each, value(index)?, value(base)?)))
+    let (inbounds, nuw) = bounds(over)?;
+    let (size, w, each) = (long(size)?, short(w)?, long(each)?);
+    Some(Made::Gives(step(inbounds, nuw, size, w, each, value(index)?, value(base)?)))
 }
 
 /// What an operation of a row gives.

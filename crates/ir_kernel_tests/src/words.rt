@@ -131,8 +131,32 @@ pub fn predicate(field: &str) -> Option<Predicate> {
     }
 }
 
-/// A change of width, and whether it says that the number is not negative, as `zext nneg`.
-pub fn conversion(field: &str) -> Option<(ConvertKind, bool)> {
+/// A predicate, and whether it says that both operands have one sign, as `samesign ult`.
+pub fn comparison(field: &str) -> Option<(bool, Predicate)> {
+    match field.strip_prefix("samesign ") {
+        Some(rest) => Some((true, predicate(rest)?)),
+        None => Some((false, predicate(field)?)),
+    }
+}
+
+/// The flags of a change of width.
+fn width_flags(word: &str) -> Option<Flags> {
+    match word {
+        "nneg" => Some(Flags {
+            nneg: true,
+            ..PLAIN
+        }),
+        "nuw nsw" => Some(Flags {
+            nuw: true,
+            nsw: true,
+            ..PLAIN
+        }),
+        _ => flags(word),
+    }
+}
+
+/// A change of width with its flags, as `zext nneg`.
+pub fn conversion(field: &str) -> Option<(ConvertKind, Flags)> {
     let (word, flag) = word_and_flag(field);
     let kind = match word {
         "trunc" => ConvertKind::Trunc,
@@ -140,7 +164,7 @@ pub fn conversion(field: &str) -> Option<(ConvertKind, bool)> {
         "sext" => ConvertKind::Sext,
         _ => return None,
     };
-    Some((kind, is_set(flag, "nneg")?))
+    Some((kind, width_flags(flag)?))
 }
 
 /// An operation whose overflow is told, and whether its numbers are read signed, as `add signed`.
@@ -168,11 +192,12 @@ pub fn pair_kind(field: &str) -> Option<PairKind> {
     }
 }
 
-/// Whether an address has to stay within its object.
-pub fn bounds(field: &str) -> Option<bool> {
+/// Whether an address has to stay within its object, and whether it has to step forwards.
+pub fn bounds(field: &str) -> Option<(bool, bool)> {
     match field {
-        "inbounds" => Some(true),
-        "anywhere" => Some(false),
+        "inbounds" => Some((true, false)),
+        "inbounds nuw" => Some((true, true)),
+        "anywhere" => Some((false, false)),
         _ => None,
     }
 }

@@ -206,7 +206,7 @@ module _ (look : List ℕ → Fact) (P : Marks → Bool) (q : Ty → Bool) (step
     rows_noted : (marks : Marks) (act : Act)
         → P (note_act look marks act) ≡ (P marks || ((list_any q (own_types act) || list_any (λ p. q p.0 || list_any q (types_in p.1)) (operands act)) || list_any (λ v. list_any q (types_in v)) (source act)))
     rows_noted marks (binary kind flags w a b) = two_noted marks a b ∙ binary_row (P marks) (q (integer w)) (tests a) (tests b) (no_integer w)
-    rows_noted marks (compare predicate over a b) = typed_two marks over a b ∙ compare_row (P marks) (q over) (tests a) (tests b)
+    rows_noted marks (compare samesign predicate over a b) = typed_two marks over a b ∙ compare_row (P marks) (q over) (tests a) (tests b)
     rows_noted marks (select condition over a b) =
         typed_two (note_value look marks condition) over a b
         ∙ ap (λ x. ((x || q over) || list_any q (types_in a)) || list_any q (types_in b)) (value_noted marks condition)

@@ -60,7 +60,7 @@ note_given look marks (Some v) = note_value look marks v
 -- each type of an instruction once
 abbrev pub note_act : (List ℕ → Fact) → Marks → Act → Marks
 note_act look marks (binary kind flags w a b) = note_value look (note_value look marks a) b
-note_act look marks (compare predicate over a b) = note_value look (note_value look (note look marks over) a) b
+note_act look marks (compare samesign predicate over a b) = note_value look (note_value look (note look marks over) a) b
 note_act look marks (select condition over a b) = note_value look (note_value look (note look (note_value look marks condition) over) a) b
 note_act look marks (convert kind flags from to a) = note_value look marks a
 note_act look marks (freeze over a) = note_value look (note look marks over) a

@@ -1,10 +1,13 @@
 -- Whether a layout text has a component that this project leaves out, byte by byte.
-use Rattle.std.specs.Prelude.{ℕ, ◌==◌, Bool, false, ◌&&◌, ◌||◌, nat_eq, bytes_eq, List, [], ◌∷◌, codes}
-use Rattle.std.specs.List.{starts_with}
+use Rattle.std.specs.Prelude.{ℕ, ◌==◌, Bool, false, ◌&&◌, ◌||◌, not, List, [], ◌∷◌, take_while}
+use Rattle.ir_layout.specs.Rules.{is_bad_component}
+
+abbrev pub is_no_dash : ℕ → Bool
+is_no_dash b = not (b == 45)
 
 -- such a component begins here
 abbrev pub is_bad_here : List ℕ → Bool
-is_bad_here bs = starts_with nat_eq bs (codes "p:32") || starts_with nat_eq bs (codes "i64:32") || bytes_eq bs (codes "E") || starts_with nat_eq bs (codes "E-")
+is_bad_here bs = is_bad_component (take_while is_no_dash bs)
 
 -- or behind one of these bytes
 abbrev pub is_bad_behind : List ℕ → Bool

@@ -141,7 +141,7 @@ fn a_size_is_over_its_limit_by_one_byte(rt: HostRuntime) -> Result<(), AllocErro
 
 #[test]
 fn a_component_of_a_layout_text_is_left_out(rt: HostRuntime) -> Result<(), AllocError> {
-    let table: [(&[u8], u32, u32); 18] = [
+    let table: [(&[u8], u32, u32); 9] = [
         (b"target datalayout = \"E-m:e\"", 1, 7),
         (b"target datalayout = \"E\"", 1, 7),
         (b"target datalayout = \"e-E\"", 1, 7),
@@ -150,23 +150,178 @@ fn a_component_of_a_layout_text_is_left_out(rt: HostRuntime) -> Result<(), Alloc
         (b"target datalayout = \"e-mE\"", 0, 0),
         (b"target datalayout = \"\"", 0, 0),
         (b"target datalayout = \"e-\"", 0, 0),
+        (
+            b"@a = global %x zeroinitializer\ntarget datalayout = \"E\"",
+            1,
+            5,
+        ),
+    ];
+    for (text, line, reason) in &table {
+        assert_eq!(rt; shown(rt.alloc(), text), (*line, *reason));
+    }
+    Ok(())
+}
+
+#[test]
+fn a_component_that_contradicts_the_layout_is_left_out(rt: HostRuntime) -> Result<(), AllocError> {
+    let table: [(&[u8], u32, u32); 65] = [
         (b"target datalayout = \"p:32:32\"", 1, 7),
         (b"target datalayout = \"e-p:32\"", 1, 7),
         (b"target datalayout = \"e-p:320\"", 1, 7),
-        (b"target datalayout = \"e-p:3-2\"", 0, 0),
+        (b"target datalayout = \"e-p:3-2\"", 1, 7),
         (b"target datalayout = \"ap:32\"", 0, 0),
+        (b"target datalayout = \"e-p:64:64\"", 0, 0),
+        (b"target datalayout = \"e-p0:64:64:64\"", 0, 0),
+        (b"target datalayout = \"e-p00:064:0064\"", 0, 0),
+        (b"target datalayout = \"e-p:64\"", 0, 0),
+        (b"target datalayout = \"e-p:64:32\"", 1, 7),
+        (b"target datalayout = \"e-p:32:64\"", 1, 7),
+        (b"target datalayout = \"e-p0:32:32\"", 1, 7),
+        (b"target datalayout = \"e-p00:32:32\"", 1, 7),
+        (b"target datalayout = \"e-p:64:64:32\"", 0, 0),
+        (b"target datalayout = \"e-p:064:064\"", 0, 0),
+        (b"target datalayout = \"e-p:640:64\"", 1, 7),
+        (b"target datalayout = \"e-p1:32:32\"", 0, 0),
+        (b"target datalayout = \"e-p10:32:32\"", 0, 0),
+        (b"target datalayout = \"e-p270:32:32\"", 0, 0),
+        (b"target datalayout = \"e-p\"", 0, 0),
+        (b"target datalayout = \"e-p:\"", 0, 0),
+        (b"target datalayout = \"e-P1\"", 0, 0),
+        (b"target datalayout = \"e-pf:32\"", 0, 0),
         (b"target datalayout = \"e-i64:32:64\"", 1, 7),
         (b"target datalayout = \"e-i64:64\"", 0, 0),
-        (b"target datalayout = \"e-i64:3\"", 0, 0),
+        (b"target datalayout = \"e-i64:3\"", 1, 7),
+        (b"target datalayout = \"e-i64:16\"", 1, 7),
+        (b"target datalayout = \"e-i064:64\"", 0, 0),
+        (b"target datalayout = \"e-i064:16\"", 1, 7),
+        (b"target datalayout = \"e-i64:064\"", 0, 0),
+        (b"target datalayout = \"e-i64:64:128\"", 0, 0),
+        (b"target datalayout = \"e-i32:16\"", 1, 7),
+        (b"target datalayout = \"e-i32:32\"", 0, 0),
+        (b"target datalayout = \"e-i32:64\"", 1, 7),
+        (b"target datalayout = \"e-i16:8\"", 1, 7),
+        (b"target datalayout = \"e-i16:16:32\"", 0, 0),
+        (b"target datalayout = \"e-i8:16\"", 1, 7),
+        (b"target datalayout = \"e-i8:8:32\"", 0, 0),
+        (b"target datalayout = \"e-i08:8\"", 0, 0),
+        (b"target datalayout = \"e-i08:16\"", 1, 7),
+        (b"target datalayout = \"e-i1:8:16\"", 0, 0),
+        (b"target datalayout = \"e-i128:64\"", 0, 0),
+        (b"target datalayout = \"e-i24:8\"", 0, 0),
+        (b"target datalayout = \"e-i64\"", 0, 0),
+        (b"target datalayout = \"e-i64:\"", 0, 0),
+        (b"target datalayout = \"e-a:0:64\"", 0, 0),
+        (b"target datalayout = \"e-a0:0:64\"", 0, 0),
+        (b"target datalayout = \"e-a:8\"", 0, 0),
+        (b"target datalayout = \"e-a:08\"", 0, 0),
+        (b"target datalayout = \"e-a:8:16\"", 0, 0),
+        (b"target datalayout = \"e-a:00\"", 0, 0),
+        (b"target datalayout = \"e-a:16\"", 1, 7),
+        (b"target datalayout = \"e-a:64\"", 1, 7),
+        (b"target datalayout = \"e-a0:64:64\"", 1, 7),
+        (b"target datalayout = \"e-a:80\"", 1, 7),
+        (b"target datalayout = \"e-a:1\"", 1, 7),
+        (b"target datalayout = \"e-a\"", 0, 0),
+        (b"target datalayout = \"e-f64:16\"", 0, 0),
+        (b"target datalayout = \"e-v64:16\"", 0, 0),
+        (b"target datalayout = \"e-S16\"", 0, 0),
+        (b"target datalayout = \"e-n8:16\"", 0, 0),
+        (b"target datalayout = \"e-Fi8\"", 0, 0),
+        (b"target datalayout = \"e-p:16:16-i32:16-i64:16\"", 1, 7),
+        (b"target datalayout = \"e-p0:32:32-i64:16\"", 1, 7),
+        (b"target datalayout = \"e-i64:16-p:64:64\"", 1, 7),
+    ];
+    for (text, line, reason) in &table {
+        assert_eq!(rt; shown(rt.alloc(), text), (*line, *reason));
+    }
+    Ok(())
+}
+
+// The strings of clang 15, 16 and 19 for x86-64, AArch64 and RISC-V 64, and then for msp430, i386, 32-bit ARM, AVR, RISC-V 32, MIPS,
+// PowerPC and z/Architecture (`clang --target=..`).
+#[test]
+fn layouts_of_other_machines_are_left_out(rt: HostRuntime) -> Result<(), AllocError> {
+    let table: [(&[u8], u32, u32); 17] = [
+        (
+            b"target datalayout = \"e-m:e-p270:32:32-p271:32:32-p272:64:64-i64:64-f80:128-n8:16:32:64-S128\"",
+            0,
+            0,
+        ),
         (
             b"target datalayout = \"e-m:e-p270:32:32-p271:32:32-p272:64:64-i64:64-i128:128-f80:128-n8:16:32:64-S128\"",
             0,
             0,
         ),
         (
-            b"@a = global %x zeroinitializer\ntarget datalayout = \"E\"",
+            b"target datalayout = \"e-m:e-i8:8:32-i16:16:32-i64:64-i128:128-n32:64-S128\"",
+            0,
+            0,
+        ),
+        (
+            b"target datalayout = \"e-m:e-i8:8:32-i16:16:32-i64:64-i128:128-n32:64-S128-Fn32\"",
+            0,
+            0,
+        ),
+        (
+            b"target datalayout = \"e-m:e-p:64:64-i64:64-i128:128-n64-S128\"",
+            0,
+            0,
+        ),
+        (
+            b"target datalayout = \"e-m:e-p:64:64-i64:64-i128:128-n32:64-S128\"",
+            0,
+            0,
+        ),
+        (
+            b"target datalayout = \"e-m:e-p:16:16-i32:16-i64:16-f32:16-f64:16-a:8-n8:16-S16\"",
             1,
-            5,
+            7,
+        ),
+        (
+            b"target datalayout = \"e-m:e-p:32:32-p270:32:32-p271:32:32-p272:64:64-f64:32:64-f80:32-n8:16:32-S128\"",
+            1,
+            7,
+        ),
+        (
+            b"target datalayout = \"e-m:e-p:32:32-p270:32:32-p271:32:32-p272:64:64-i128:128-f64:32:64-f80:32-n8:16:32-S128\"",
+            1,
+            7,
+        ),
+        (
+            b"target datalayout = \"e-m:e-p:32:32-Fi8-i64:64-v128:64:128-a:0:32-n32-S64\"",
+            1,
+            7,
+        ),
+        (
+            b"target datalayout = \"e-P1-p:16:8-i8:8-i16:8-i32:8-i64:8-f32:8-f64:8-n8-a:8\"",
+            1,
+            7,
+        ),
+        (
+            b"target datalayout = \"e-m:e-p:32:32-i64:64-n32-S128\"",
+            1,
+            7,
+        ),
+        (
+            b"target datalayout = \"E-m:m-p:32:32-i8:8:32-i16:16:32-i64:64-n32-S64\"",
+            1,
+            7,
+        ),
+        (b"target datalayout = \"E-m:e-p:32:32-i64:64-n32\"", 1, 7),
+        (
+            b"target datalayout = \"E-m:e-p:32:32-Fn32-i64:64-n32\"",
+            1,
+            7,
+        ),
+        (
+            b"target datalayout = \"E-m:e-i1:8:16-i8:8:16-i64:64-f128:64-a:8:16-n32:64\"",
+            1,
+            7,
+        ),
+        (
+            b"target datalayout = \"E-m:e-i1:8:16-i8:8:16-i64:64-f128:64-v128:64-a:8:16-n32:64\"",
+            1,
+            7,
         ),
     ];
     for (text, line, reason) in &table {

@@ -39,6 +39,14 @@ abbrev pub is_none_open : List ℕ → Bool
 is_none_open [] = true
 is_none_open (mark ∷ outer) = false
 
+abbrev pub is_closing : Lexeme → Bool
+is_closing t = is_mark 41 t || is_mark 93 t || is_mark 125 t
+
+-- a closing mark closes the innermost open bracket
+abbrev pub closes : List ℕ → Lexeme → Bool
+closes [] t = not (is_closing t)
+closes (innermost ∷ outer) t = not (is_closing t) || is_mark innermost t
+
 -- the words that are dropped with the parentheses that follow them
 abbrev pub takes_parentheses : Lexeme → Bool
 takes_parentheses t = is_word (codes "dereferenceable") t || is_word (codes "dereferenceable_or_null") t || is_word (codes "memory") t || is_word (codes "captures") t || is_word (codes "initializes") t || is_word (codes "range") t

@@ -1,14 +1,16 @@
 -- What an item carries no meaning in, and is dropped: whole items, and tokens of the others.
-use Rattle.std.specs.Prelude.{ℕ, zero, suc, ◌+◌, ◌-◌, Bool, true, false, not, ◌&&◌, ◌||◌, ◌==◌, if◌then◌else◌, Option, Some, None, option_map, List, [], ◌∷◌, ◌++◌, take, drop, length, codes, bytes_eq, nat_eq}
+use Rattle.std.specs.Prelude.{ℕ, zero, suc, ◌+◌, ◌-◌, Bool, true, false, not, ◌&&◌, ◌||◌, ◌==◌, if◌then◌else◌, Option, Some, None, option_map, List, [], ◌∷◌, ◌++◌, take, drop, length, codes, bytes_eq, nat_eq, nat_lt}
 use Rattle.std.specs.List.{starts_with}
 use Rattle.std.specs.Char.{is_ascii_digit}
 use Rattle.ir_lex.specs.Bytes.{run, begins_with}
 use Rattle.ir_lex.specs.Lexeme.{Lexeme}
 use Rattle.ir_lex.specs.Marks.{is_word, is_mark, front_passes}
-use Rattle.ir_lex.specs.Cut.{open_after, is_none_open, takes_parentheses}
+use Rattle.ir_lex.specs.Cut.{open_after, is_none_open, closes, takes_parentheses}
 use Rattle.ir_lex.specs.Names.{sigil_name}
 use Rattle.ir_lex.specs.declared.token.TokenKind.{TokenKind}
 use Rattle.ir_lex.specs.declared.token.TokenKind.TheVariants.{Word, Number, Quoted, Global, Metadata, Attribute}
+use Rattle.ir_lex.specs.declared.whole.Note.{Note}
+use Rattle.ir_lex.specs.declared.whole.Note.TheVariants.{Whole, Comma, Kind}
 use Rattle.ir_lex.specs.declared.drops.Front.{Front}
 use Rattle.ir_lex.specs.declared.drops.Front.TheVariants.{Kept, Dropped, Unclosed}
 
@@ -157,30 +159,115 @@ is_label (t ∷ []) = false
 is_label (t ∷ u ∷ []) = label_kind t.kind t.text && is_mark 58 u
 is_label (t ∷ u ∷ v ∷ ts) = false
 
--- ---- dropped items
+-- ---- dropped items: each is dropped only where the whole of it has the form
 
--- `source_filename`, `attributes`, a metadata name, `#dbg_..`, `target triple`
-abbrev pub begins_dropped : List Lexeme → Bool
-begins_dropped [] = false
-begins_dropped (t ∷ ts) =
-    is_word (codes "source_filename") t || is_word (codes "attributes") t || is_metadata t
-    || (attribute_kind t.kind && starts_with nat_eq t.text (codes "#dbg_"))
-    || (is_word (codes "target") t && front_passes (is_word (codes "triple")) ts)
+-- a token that passes the test, and behind it what passes the other one
+abbrev pub behind : (Lexeme → Bool) → (List Lexeme → Bool) → List Lexeme → Bool
+behind test on [] = false
+behind test on (t ∷ ts) = test t && on ts
 
--- the first global name begins with `llvm.dbg.` and has its arguments directly behind it
-abbrev pub names_debug : List Lexeme → Bool
-names_debug [] = false
-names_debug (t ∷ ts) = if global_kind t.kind then starts_with nat_eq (sigil_name t.text) (codes "llvm.dbg.") && front_passes (is_mark 40) ts else names_debug ts
+-- how many tokens stand up to the one that closes all brackets, given those that are open; none where a closing mark does not fit
+abbrev pub balanced_length : List ℕ → List Lexeme → Option ℕ
+balanced_length open_marks [] = None
+balanced_length open_marks (t ∷ ts) =
+    if not (closes open_marks t) then None
+    else (if is_none_open (open_after open_marks t) then Some 1
+    else option_map (λ n. n + 1) (balanced_length (open_after open_marks t) ts))
 
--- a call of such a function, with `tail` or not
+abbrev pub ends_with : Option ℕ → List Lexeme → Bool
+ends_with (Some n) ts = n == length ts
+ends_with None ts = false
+
+-- a bracket that this mark opens, tokens with balanced brackets, and the mark that closes it
+abbrev pub is_group : ℕ → List Lexeme → Bool
+is_group byte ts = front_passes (is_mark byte) ts && ends_with (balanced_length [] ts) ts
+
+-- a string alone
+abbrev pub is_only_string : List Lexeme → Bool
+is_only_string [] = false
+is_only_string (t ∷ []) = is_string t
+is_only_string (t ∷ u ∷ ts) = false
+
+-- `= STRING`
+abbrev pub is_assigned_string : List Lexeme → Bool
+is_assigned_string ts = behind (is_mark 61) is_only_string ts
+
+-- `source_filename = STRING`, `target triple = STRING`
+abbrev pub is_named_string : List Lexeme → Bool
+is_named_string ts =
+    behind (is_word (codes "source_filename")) is_assigned_string ts
+    || behind (is_word (codes "target")) (behind (is_word (codes "triple")) is_assigned_string) ts
+
+-- `attributes #N = { .. }`
+abbrev pub is_attributes_item : List Lexeme → Bool
+is_attributes_item ts = behind (is_word (codes "attributes")) (behind is_attribute_number (behind (is_mark 61) (is_group 123))) ts
+
+-- `!` with a word
+abbrev pub is_metadata_word : Lexeme → Bool
+is_metadata_word t = is_metadata t && not (are_digits (drop 1 t.text))
+
+-- `!{ .. }`, `!WORD( .. )`
+abbrev pub is_plain_node : List Lexeme → Bool
+is_plain_node ts = behind (is_mark 33) (is_group 123) ts || behind is_metadata_word (is_group 40) ts
+
+-- the same, with `distinct` or not
+abbrev pub is_node : List Lexeme → Bool
+is_node ts = is_plain_node ts || behind (is_word (codes "distinct")) is_plain_node ts
+
+-- `!NAME = NODE`
+abbrev pub is_metadata_item : List Lexeme → Bool
+is_metadata_item ts = behind is_metadata (behind (is_mark 61) is_node) ts
+
+-- `#dbg_WORD`
+abbrev pub is_debug_word : Lexeme → Bool
+is_debug_word t = attribute_kind t.kind && (starts_with nat_eq t.text (codes "#dbg_") && nat_lt 5 (length t.text))
+
+-- `#dbg_WORD( .. )`
+abbrev pub is_debug_record : List Lexeme → Bool
+is_debug_record ts = behind is_debug_word (is_group 40) ts
+
+-- `#N` and `, !KIND !N`, read token by token
+abbrev pub note_after : Note → Lexeme → Option Note
+note_after Whole t = if is_attribute_number t then Some Whole else (if is_mark 44 t then Some Comma else None)
+note_after Comma t = if is_metadata_word t then Some Kind else None
+note_after Kind t = if is_metadata_number t then Some Whole else None
+
+abbrev pub is_whole : Note → Bool
+is_whole Whole = true
+is_whole _ = false
+
+abbrev pub notes_on : Option Note → (Note → Bool) → Bool
+notes_on (Some note) on = on note
+notes_on None on = false
+
+abbrev pub notes_from : List Lexeme → Note → Bool
+notes_from [] note = is_whole note
+notes_from (t ∷ ts) note = notes_on (note_after note t) (notes_from ts)
+
+-- nothing but notes
+abbrev pub are_notes : List Lexeme → Bool
+are_notes ts = notes_from ts Whole
+
+abbrev pub notes_behind : Option ℕ → List Lexeme → Bool
+notes_behind (Some n) ts = are_notes (drop n ts)
+notes_behind None ts = false
+
+-- `( .. )`, and behind it notes alone
+abbrev pub is_noted_group : List Lexeme → Bool
+is_noted_group ts = front_passes (is_mark 40) ts && notes_behind (balanced_length [] ts) ts
+
+-- a name that begins with `llvm.dbg.`
+abbrev pub is_debug_name : Lexeme → Bool
+is_debug_name t = global_kind t.kind && starts_with nat_eq (sigil_name t.text) (codes "llvm.dbg.")
+
+-- `call void @llvm.dbg.NAME( .. )`
+abbrev pub is_debug_call : List Lexeme → Bool
+is_debug_call ts = behind (is_word (codes "call")) (behind (is_word (codes "void")) (behind is_debug_name is_noted_group)) ts
+
+-- the same, with `tail` or not
 abbrev pub calls_debug : List Lexeme → Bool
-calls_debug [] = false
-calls_debug (t ∷ ts) = if is_word (codes "call") t || (is_word (codes "tail") t && front_passes (is_word (codes "call")) ts) then names_debug ts else false
-
--- the item is a label, behind which only dropped tokens stand
-abbrev pub is_label_item : List Lexeme → Bool
-is_label_item ts = if begins_label ts then is_label (remaining ts) else false
+calls_debug ts = is_debug_call ts || behind (is_word (codes "tail")) is_debug_call ts
 
 -- the item is dropped whole
 unfoldable pub is_dropped_item : List Lexeme → Bool
-is_dropped_item ts = not (is_label_item ts) && (begins_dropped ts || calls_debug ts)
+is_dropped_item ts = is_named_string ts || is_attributes_item ts || is_metadata_item ts || is_debug_record ts || calls_debug ts

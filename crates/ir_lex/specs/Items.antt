@@ -5,7 +5,7 @@ use Rattle.ir_ast.specs.Program.{Act}
 use Rattle.ir_lex.specs.Bytes.{begins_with}
 use Rattle.ir_lex.specs.Lexeme.{Lexeme}
 use Rattle.ir_lex.specs.Marks.{is_mark, is_word, is_word_kind, front_passes}
-use Rattle.ir_lex.specs.Cut.{open_after, is_none_open}
+use Rattle.ir_lex.specs.Cut.{open_after, is_none_open, closes}
 use Rattle.ir_lex.specs.Drop.{label_kind, are_digits, is_dropped_item, remaining}
 use Rattle.ir_lex.specs.Names.{plain_name}
 use Rattle.ir_lex.specs.Tok.{Tok, toks, word, mark, IsLocal, IsGlobal}
@@ -74,14 +74,6 @@ number_behind next (p ∷ others) = number_behind (number_after next p.1) others
 -- brackets that are each closed by their own kind, behind those that are open
 abbrev pub bracket_of : Tok → Lexeme
 bracket_of t = record { kind = t.0; line = 0; text = t.1 }
-
-abbrev pub is_closing : Lexeme → Bool
-is_closing t = is_mark 41 t || is_mark 93 t || is_mark 125 t
-
--- a closing mark closes the innermost open bracket
-abbrev pub closes : List ℕ → Lexeme → Bool
-closes [] t = not (is_closing t)
-closes (innermost ∷ outer) t = not (is_closing t) || is_mark innermost t
 
 abbrev pub are_balanced : List ℕ → List Tok → Bool
 are_balanced open_marks [] = is_none_open open_marks

@@ -1,6 +1,6 @@
 -- The productions of a body, in one table: the word of the operation, the parts behind it, and the instruction that they make. A row
 -- makes none where its notes are broken.
-use Rattle.std.specs.Prelude.{◌≡◌, ℕ, Bool, true, false, not, ◌&&◌, nat_lt, nat_le, Option, Some, None, if◌then◌else◌, List, [], ◌∷◌, ◌++◌, codes, Any}
+use Rattle.std.specs.Prelude.{◌≡◌, ℕ, Bool, true, false, not, ◌&&◌, ◌||◌, nat_lt, nat_le, Option, Some, None, if◌then◌else◌, List, [], ◌∷◌, ◌++◌, codes, Any}
 use Rattle.ir_ast.specs.Plain.{Ty, nothing, integer, pointer, form}
 use Rattle.ir_ast.specs.Program.{Act, binary, compare, select, convert, freeze, phi, slot, load, store, offset, call, extract, goto, branch, switch, give, unreachable}
 use Rattle.ir_ast.specs.declared.instr.BinaryKind.{BinaryKind}
@@ -9,7 +9,7 @@ use Rattle.ir_ast.specs.declared.instr.Predicate.{Predicate}
 use Rattle.ir_ast.specs.declared.instr.Predicate.TheVariants.{Sgt, Sge, Slt, Sle}
 use Rattle.ir_ast.specs.declared.instr.ConvertKind.TheVariants.{Trunc, Zext, Sext}
 use Rattle.ir_lex.specs.Tok.{Tok, word, mark, IsLocal}
-use Rattle.ir_lex.specs.ValueSpelling.{no_flags}
+use Rattle.ir_lex.specs.ValueSpelling.{no_flags, offset_flags, is_bounded}
 use Rattle.ir_lex.specs.Parts.{Part, sign, key, may, width, over, returned, callee, register, predicate, target, part, bit, place, width_value, width_pair, typed, typed_pair, twice, alignment, access, arms, offsets, arguments, choices, AllGot, SpellsAll}
 
 -- ---- the notes
@@ -79,12 +79,12 @@ disjoining = record {
   build = λ got. Some (binary Or (record no_flags { disjoint = got.0 }) got.1.0.0 got.1.0.1 got.1.0.2);
 }
 
--- P T V , V: T is iN or ptr, and for ptr P is none of the four signed ones
+-- [samesign] P T V , V: T is iN or ptr, and for ptr P is none of the four signed ones, and there is no `samesign`
 abbrev pub comparing : Row
 comparing = record {
   sets = does;
-  parts = predicate ∷ typed_pair ∷ [];
-  build = λ got. where_holds (is_scalar got.1.0.0 && not (is_pointer_type got.1.0.0 && is_signed got.0)) (compare got.0 got.1.0.0 got.1.0.1 got.1.0.2);
+  parts = may (codes "samesign") ∷ predicate ∷ typed_pair ∷ [];
+  build = λ got. where_holds (is_scalar got.1.1.0.0 && not (is_pointer_type got.1.1.0.0 && (got.0 || is_signed got.1.0))) (compare got.0 got.1.0 got.1.1.0.0 got.1.1.0.1 got.1.1.0.2);
 }
 
 -- i1 V , T V , T V
@@ -95,12 +95,12 @@ selecting = record {
   build = λ got. Some (select got.0 got.1.1.0.0 got.1.1.0.1 got.1.1.0.2);
 }
 
--- iN V to iM: narrower; wider, with [nneg]; wider
+-- iN V to iM: narrower, with [nuw] [nsw]; wider, with [nneg]; wider
 abbrev pub truncating : Row
 truncating = record {
   sets = does;
-  parts = width_value ∷ key (codes "to") ∷ width ∷ [];
-  build = λ got. where_holds (nat_lt got.1.1.0 got.0.0) (convert Trunc no_flags got.0.0 got.1.1.0 got.0.1);
+  parts = may (codes "nuw") ∷ may (codes "nsw") ∷ width_value ∷ key (codes "to") ∷ width ∷ [];
+  build = λ got. where_holds (nat_lt got.1.1.1.1.0 got.1.1.0.0) (convert Trunc (record no_flags { nuw = got.0; nsw = got.1.0 }) got.1.1.0.0 got.1.1.1.1.0 got.1.1.0.1);
 }
 
 abbrev pub zero_extending : Row
@@ -157,12 +157,12 @@ storing = record {
   build = λ got. Some (store got.0.0 got.0.1 got.1.1.0 got.1.1.1.0);
 }
 
--- [inbounds] T , ptr V , iN V , ..
+-- [inbounds [nuw]] T , ptr V , iN V , ..
 abbrev pub addressing : Row
 addressing = record {
   sets = does;
-  parts = may (codes "inbounds") ∷ over ∷ sign 44 ∷ place ∷ offsets ∷ [];
-  build = λ got. Some (offset (form (record no_flags { inbounds = got.0 }) got.1.0 got.1.1.1.0 got.1.1.1.1.0));
+  parts = may (codes "inbounds") ∷ may (codes "nuw") ∷ over ∷ sign 44 ∷ place ∷ offsets ∷ [];
+  build = λ got. where_holds (is_bounded got.0 got.1.0) (offset (form (offset_flags got.0 got.1.0) got.1.1.0 got.1.1.1.1.0 got.1.1.1.1.1.0));
 }
 
 -- R @NAME ( T V , .. )

@@ -1,5 +1,5 @@
 -- How operands and initialisers are spelled (LLVM Language Reference, "Constants").
-use Rattle.std.specs.Prelude.{◌≡◌, ℕ, suc, ◌≤◌, max, Bool, true, false, ◌⊎◌, ℤ, pos, Some, List, [], ◌∷◌, ◌++◌, drop, codes}
+use Rattle.std.specs.Prelude.{◌≡◌, ℕ, suc, ◌≤◌, max, Bool, true, false, not, ◌||◌, ◌⊎◌, ℤ, pos, Some, List, [], ◌∷◌, ◌++◌, drop, codes}
 use Rattle.ir_ast.specs.Plain.{Ty, integer, pointer, Val, local, global, number, null, poison, address, Form, form, Indices, no_indices, index_and, Ini, zero_init, number_init, truth_init, bytes_init, array_init, structure_init, packed_init, pointer_init, Inis, no_inits, init_and}
 use Rattle.ir_ast.specs.declared.operand.Flags.{Flags}
 use Rattle.ir_lex.specs.Bytes.{begins_with}
@@ -16,6 +16,21 @@ IsOptional text false ts = ts ≡ []
 
 abbrev pub no_flags : Flags
 no_flags = record { nuw = false; nsw = false; exact = false; disjoint = false; nneg = false; inbounds = false }
+
+-- the flags of a `getelementptr`
+abbrev pub offset_flags : Bool → Bool → Flags
+offset_flags inbounds nuw = record no_flags { nuw = nuw; inbounds = inbounds }
+
+-- `nuw` stands behind `inbounds` alone
+abbrev pub is_bounded : Bool → Bool → Bool
+is_bounded inbounds nuw = inbounds || not nuw
+
+-- `[inbounds [nuw]]`
+abbrev pub SpellsBounds : Flags → List Tok → Type 0
+SpellsBounds flags ts =
+    (inbounds : Bool) × (nuw : Bool) × (first : List Tok) × (second : List Tok)
+    × IsOptional (codes "inbounds") inbounds first × IsOptional (codes "nuw") nuw second
+    × (is_bounded inbounds nuw ≡ true) × (flags ≡ offset_flags inbounds nuw) × (ts ≡ first ++ second)
 
 abbrev pub IsNumber : ℤ → List Tok → Type 0
 IsNumber n ts = (text : List ℕ) × (number_of text ≡ Some n) × (ts ≡ (Number, text) ∷ [])
@@ -36,7 +51,7 @@ HasIndices no_indices = ⊥
 HasIndices (index_and t v others) = Unit {0}
 
 -- an operand of a type: `%NAME`, a number, `true`, `false`, `null`, `poison`, `@NAME`, or
--- `getelementptr [inbounds] ( T , ptr V , iN number , .. )`
+-- `getelementptr [inbounds [nuw]] ( T , ptr V , iN number , .. )`
 abbrev mutual
   pub SpellsVal : Val → Ty → List Tok → Type 0
   SpellsVal (local name) over ts = IsLocal name ts
@@ -48,10 +63,9 @@ abbrev mutual
 
   pub SpellsForm : Form → List Tok → Type 0
   SpellsForm (form flags t base offsets) ts =
-      (inbounds : Bool) × (flag : List Tok) × (over : List Tok) × (at : List Tok) × (rest : List Tok)
-      × (flags ≡ record no_flags { inbounds = inbounds }) × IsOptional (codes "inbounds") inbounds flag
+      (bounds : List Tok) × (over : List Tok) × (at : List Tok) × (rest : List Tok) × SpellsBounds flags bounds
       × SpellsType t over × SpellsVal base pointer at × SpellsNumbers offsets rest × HasIndices offsets
-      × (ts ≡ word (codes "getelementptr") ∷ (flag ++ mark 40 ∷ (over ++ mark 44 ∷ word (codes "ptr") ∷ (at ++ rest ++ mark 41 ∷ []))))
+      × (ts ≡ word (codes "getelementptr") ∷ (bounds ++ mark 40 ∷ (over ++ mark 44 ∷ word (codes "ptr") ∷ (at ++ rest ++ mark 41 ∷ []))))
 
 -- how many constant `getelementptr` forms stand in one another
 abbrev mutual

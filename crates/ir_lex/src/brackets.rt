@@ -2,7 +2,7 @@
 
 ghost use Rattle.std.specs.Prelude.{◌≡◌, [], OnOk, length};
 ghost use Rattle.ir_lex.specs.Lexeme.{lexeme};
-ghost use Rattle.ir_lex.specs.Cut.{open_after, closer, is_none_open};
+ghost use Rattle.ir_lex.specs.Cut.{open_after, closer, is_none_open, is_closing, closes};
 
 use crate::token::Token;
 use std::alloc::{AllocError, Global};
@@ -39,6 +39,16 @@ impl Brackets {
         self.closers.is_empty()
     }
 
+    /// Whether a token closes the innermost bracket, where it closes one.
+    pub fn takes(&self, token: &Token<'_>) -> bool
+        ensures { result ≡ closes self.now (lexeme token.now) }
+    {
+        match self.closers.last() {
+            Some(innermost) => !is_closing(token) || token.is_mark(*innermost),
+            None => !is_closing(token),
+        }
+    }
+
     /// Passes over a token, which may open a bracket or close the innermost one.
     pub fn pass(&mut self, token: &Token<'_>) -> Result<(), AllocError>
         ensures { OnOk result (self.new ≡ open_after self.old (lexeme token.now)) }
@@ -52,6 +62,13 @@ impl Brackets {
         }
         Ok(())
     }
+}
+
+/// Whether a token is a closing mark.
+fn is_closing(token: &Token<'_>) -> bool
+    ensures { result ≡ is_closing (lexeme token.now) }
+{
+    token.is_mark(b')') || token.is_mark(b']') || token.is_mark(b'}')
 }
 
 /// The mark that closes the bracket which a token opens.

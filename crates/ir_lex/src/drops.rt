@@ -1,4 +1,4 @@
-//! What an item carries no meaning in, and a reader does not look at.
+//! The tokens of an item that carry no meaning, which a reader does not look at.
 
 ghost use Rattle.std.specs.Prelude.{◌≡◌, ◌<◌, ◌≤◌, ◌+◌, IfOk, IfSome, IsTrue, [], length};
 ghost use Rattle.ir_lex.specs.Lexeme.{lexeme, lexemes};
@@ -8,12 +8,10 @@ ghost use Rattle.ir_lex.specs.Within.{IsFrontWithin};
 use crate::brackets::Brackets;
 use crate::bytes::begins_with;
 use crate::cut::takes_parentheses;
-use crate::name::sigil_name;
 use crate::tell::{
-    begins_digits, is_attribute, is_attribute_number, is_dropped_word, is_global, is_metadata,
-    is_metadata_number, is_string,
+    begins_digits, is_attribute_number, is_dropped_word, is_metadata, is_metadata_number, is_string,
 };
-use crate::token::{Token, TokenKind, TokenList, begins_mark, begins_word};
+use crate::token::{Token, TokenKind, TokenList, begins_mark};
 use std::alloc::{AllocError, Global};
 
 /// What of the front of an item is dropped.
@@ -54,31 +52,6 @@ pub fn remaining<'t>(alloc: Global, tokens: &'t [Token<'t>]) -> Result<TokenList
         }
     }
     Ok(TokenList::new(kept))
-}
-
-/// Whether the item is dropped whole.
-#[tactic(auto, unfolding(crate::specs::Drop::is_dropped_item))]
-pub fn is_dropped_item(alloc: Global, tokens: &[Token<'_>]) -> Result<bool, AllocError>
-    ensures { IfOk result (λ dropped. dropped ≡ definition.is_dropped_item (lexemes tokens.now)) }
-{
-    if is_label_item(alloc, tokens)? {
-        Ok(false)
-    } else if begins_dropped(tokens) {
-        Ok(true)
-    } else {
-        calls_debug(alloc, tokens)
-    }
-}
-
-/// Whether the item is a label, behind which only dropped tokens stand.
-fn is_label_item(alloc: Global, tokens: &[Token<'_>]) -> Result<bool, AllocError>
-    ensures { IfOk result (λ label. label ≡ definition.is_label_item (lexemes tokens.now)) }
-{
-    if !begins_label(tokens) {
-        return Ok(false);
-    }
-    let rest = remaining(alloc, tokens)?;
-    Ok(is_label(rest.as_slice()))
 }
 
 /// Whether the tokens are a label: a word, digits or a string, and `:`.
@@ -145,36 +118,6 @@ fn group_length(alloc: Global, tokens: &[Token<'_>]) -> Result<Option<usize>, Al
     Ok(None)
 }
 
-/// Whether a call of a function whose name begins with `llvm.dbg.` is at the front, with `tail` or not.
-fn calls_debug(alloc: Global, tokens: &[Token<'_>]) -> Result<bool, AllocError>
-    ensures { IfOk result (λ calls. calls ≡ definition.calls_debug (lexemes tokens.now)) }
-{
-    match tokens {
-        [first, rest @ ..] => {
-            if first.is_word(b"call") || (first.is_word(b"tail") && begins_word(b"call", rest)) {
-                names_debug(alloc, rest)
-            } else {
-                Ok(false)
-            }
-        }
-        [] => Ok(false),
-    }
-}
-
-/// Whether the first global name begins with `llvm.dbg.` and has its arguments directly behind it.
-fn names_debug(alloc: Global, tokens: &[Token<'_>]) -> Result<bool, AllocError>
-    ensures { IfOk result (λ debug. debug ≡ definition.names_debug (lexemes tokens.now)) }
-{
-    for (at, token) in tokens.iter().enumerate() {
-        if is_global(token) {
-            let name = sigil_name(alloc, token.text)?;
-            let arguments = begins_mark(b'(', tokens.split_at(at + 1).1);
-            return Ok(name.as_bytes().starts_with(b"llvm.dbg.") && arguments);
-        }
-    }
-    Ok(false)
-}
-
 /// How many tokens a label at the front has.
 fn label_length(tokens: &[Token<'_>]) -> usize
     ensures value { result ≡ definition.label_length (lexemes tokens.now) }
@@ -203,22 +146,6 @@ fn is_label_name(token: &Token<'_>) -> bool
         TokenKind::Number => !begins_with(b'-', token.text),
         TokenKind::Quoted => begins_with(b'"', token.text),
         _ => false,
-    }
-}
-
-/// Whether an item that is dropped whole is at the front, other than a call.
-fn begins_dropped(tokens: &[Token<'_>]) -> bool
-    ensures { result ≡ definition.begins_dropped (lexemes tokens.now) }
-{
-    match tokens {
-        [first, rest @ ..] => {
-            first.is_word(b"source_filename")
-                || first.is_word(b"attributes")
-                || is_metadata(first)
-                || (is_attribute(first) && first.text.starts_with(b"#dbg_"))
-                || (first.is_word(b"target") && begins_word(b"triple", rest))
-        }
-        [] => false,
     }
 }
 

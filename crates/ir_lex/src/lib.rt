@@ -14,9 +14,11 @@ pub mod name;
 mod piece;
 mod tell;
 pub mod token;
+pub mod whole;
 
 pub use cut::{Item, ItemList, begins_define, items};
-pub use drops::{begins_label, is_dropped_item, is_label, remaining};
+pub use drops::{begins_label, is_label, remaining};
 pub use lexer::tokens;
 pub use name::{plain_name, sigil_name};
 pub use token::{Token, TokenKind, TokenList};
+pub use whole::is_dropped_item;

@@ -80,6 +80,13 @@ pub fn is_metadata_number(token: &Token<'_>) -> bool
     is_metadata(token) && are_digits(behind_first(token.text))
 }
 
+/// `!` with a word.
+pub fn is_metadata_word(token: &Token<'_>) -> bool
+    ensures { result ≡ definition.is_metadata_word (lexeme token.now) }
+{
+    is_metadata(token) && !are_digits(behind_first(token.text))
+}
+
 /// `@` with a name.
 pub fn is_global(token: &Token<'_>) -> bool
     ensures { result ≡ definition.global_kind token.now.kind }

@@ -53,13 +53,13 @@ abbrev pub size_at : List (List ℕ) → Value → ℕ
 size_at memory (Address o x) = size_of memory o
 size_at memory _ = 0
 
-abbrev pub stepped : List (List ℕ) → Bool → ℕ → ℕ → Option Value → Value → Option Value
-stepped memory inbounds w each None v = None
-stepped memory inbounds w each (Some i) v = Some (step_of inbounds (size_at memory v) w each i v)
+abbrev pub stepped : List (List ℕ) → Bool → Bool → ℕ → ℕ → Option Value → Value → Option Value
+stepped memory inbounds nuw w each None v = None
+stepped memory inbounds nuw w each (Some i) v = Some (step_of inbounds nuw (size_at memory v) w each i v)
 
 abbrev pub moved : List (List ℕ) → Registers → Move → Value → Option Value
 moved memory rs (Begin inbounds) v = Some (begin_at inbounds (size_at memory v) v)
-moved memory rs (By inbounds w each index) v = stepped memory inbounds w each (base_value rs index) v
+moved memory rs (By inbounds nuw w each index) v = stepped memory inbounds nuw w each (base_value rs index) v
 
 abbrev pub moved_all : List (List ℕ) → Registers → Option Value → List Move → Option Value
 moved_all memory rs None moves = None
@@ -188,10 +188,10 @@ arguments_pass memory rs (i ∷ is) = tried (value_of memory rs i) (arguments_pa
 -- what an instruction gives that neither writes nor leads elsewhere
 abbrev pub computed : List (List ℕ) → List Object → Registers → Act → Computed
 computed memory objects rs (act.Binary kind flags w a b) = on_two (binary flags kind w) (value_of memory rs a) (value_of memory rs b)
-computed memory objects rs (act.Compare p w a b) = on_two (compare_numbers p w) (value_of memory rs a) (value_of memory rs b)
+computed memory objects rs (act.Compare samesign p w a b) = on_two (compare_numbers samesign p w) (value_of memory rs a) (value_of memory rs b)
 computed memory objects rs (act.ComparePointers p a b) = on_two (compare_sized memory p) (value_of memory rs a) (value_of memory rs b)
 computed memory objects rs (act.Select c a b) = on_three select (value_of memory rs c) (value_of memory rs a) (value_of memory rs b)
-computed memory objects rs (act.Convert kind nneg from to a) = on_one (convert nneg kind from to) (value_of memory rs a)
+computed memory objects rs (act.Convert kind flags from to a) = on_one (convert flags kind from to) (value_of memory rs a)
 computed memory objects rs (act.Freeze a) = on_one freeze (value_of memory rs a)
 computed memory objects rs (act.Address a) = given (value_of memory rs a)
 computed memory objects rs (act.Slot align) = Sets (held.Slot align None)

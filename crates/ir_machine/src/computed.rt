@@ -42,11 +42,19 @@ fn binary(
     }
 }
 
-fn compare(predicate: Predicate, width: u32, a: Option<Value>, b: Option<Value>) -> Computed
-    ensures { result ≡ definition.on_two (compare_numbers predicate width) a b }
+fn compare(
+    samesign: bool,
+    predicate: Predicate,
+    width: u32,
+    a: Option<Value>,
+    b: Option<Value>,
+) -> Computed
+    ensures { result ≡ definition.on_two (compare_numbers samesign predicate width) a b }
 {
     match (a, b) {
-        (Some(a), Some(b)) => computed_by(ir_value::compare_numbers(predicate, width, a, b)),
+        (Some(a), Some(b)) => {
+            computed_by(ir_value::compare_numbers(samesign, predicate, width, a, b))
+        }
         _ => Computed::Lost,
     }
 }
@@ -80,11 +88,11 @@ fn select(condition: Option<Value>, a: Option<Value>, b: Option<Value>) -> Compu
     }
 }
 
-fn convert(nneg: bool, kind: ConvertKind, from: u32, to: u32, a: Option<Value>) -> Computed
-    ensures { result ≡ definition.on_one (convert nneg kind from to) a }
+fn convert(flags: Flags, kind: ConvertKind, from: u32, to: u32, a: Option<Value>) -> Computed
+    ensures { result ≡ definition.on_one (convert flags kind from to) a }
 {
     match a {
-        Some(a) => computed_by(ir_value::convert(nneg, kind, from, to, a)),
+        Some(a) => computed_by(ir_value::convert(flags, kind, from, to, a)),
         None => Computed::Lost,
     }
 }
@@ -388,11 +396,13 @@ pub(crate) fn computed(
             value_of(memory, registers, b),
         ),
         Act::Compare {
+            samesign,
             predicate,
             width,
             a,
             b,
         } => compare(
+            *samesign,
             *predicate,
             *width,
             value_of(memory, registers, a),
@@ -411,11 +421,11 @@ pub(crate) fn computed(
         ),
         Act::Convert {
             kind,
-            nneg,
+            flags,
             from,
             to,
             a,
-        } => convert(*nneg, *kind, *from, *to, value_of(memory, registers, a)),
+        } => convert(*flags, *kind, *from, *to, value_of(memory, registers, a)),
         Act::Freeze { a } => freeze(value_of(memory, registers, a)),
         Act::Address { a } => address(value_of(memory, registers, a)),
         Act::Slot { align } => Computed::Sets(Held::Slot {

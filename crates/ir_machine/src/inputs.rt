@@ -66,11 +66,15 @@ fn moved(memory: &KMemory, registers: &Seq<Option<Held>>, by: Move, value: Value
         Move::Begin { inbounds } => Some(begin(inbounds, size_at(memory, value), value)),
         Move::By {
             inbounds,
+            nuw,
             width,
             each,
             index,
         } => match base_value(registers, index) {
-            Some(index) => Some(step(inbounds, size_at(memory, value), width, each, index, value)),
+            Some(index) => {
+                let size = size_at(memory, value);
+                Some(step(inbounds, nuw, size, width, each, index, value))
+            }
             None => None,
         },
     }

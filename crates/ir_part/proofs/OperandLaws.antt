@@ -3,11 +3,12 @@ use Rattle.std.proofs.Common.{◌≡◌, ℕ, zero, suc, ◌<◌, ◌≤◌, Boo
 use Rattle.std.specs.Prelude.{if◌then◌else◌, codes, bytes_eq}
 use Rattle.std.proofs.lemmas.Bool.{eqb-true}
 use Rattle.ir_ast.specs.Plain.{Ty, nothing, integer, pointer, array, structure, packed, named, opaque, Val, local, global, number, null, poison, address, Form, form, Indices, no_indices, index_and}
+use Rattle.ir_ast.specs.declared.operand.Flags.{Flags}
 use Rattle.ir_lex.specs.Names.{sigil_name}
 use Rattle.ir_lex.specs.Decimal.{number_of}
 use Rattle.ir_lex.specs.Tok.{Tok, word, mark}
 use Rattle.ir_lex.specs.TypeSpelling.{SpellsType}
-use Rattle.ir_lex.specs.ValueSpelling.{IsOptional, IsNumber, SpellsNumbers, HasIndices, SpellsVal, SpellsForm, nesting, form_nesting, SpellsOperand}
+use Rattle.ir_lex.specs.ValueSpelling.{IsOptional, IsNumber, offset_flags, is_bounded, SpellsBounds, SpellsNumbers, HasIndices, SpellsVal, SpellsForm, nesting, form_nesting, SpellsOperand}
 use Rattle.ir_lex.specs.declared.token.TokenKind.TheVariants.{Word, Number, Quoted, Local, Global, Metadata, Attribute, Mark}
 use Rattle.ir_part.specs.Reader.{Reader, ◌>>=◌, Takes, IsSound, IsComplete}
 use Rattle.ir_part.specs.Fronts.{after_mark, after_word, is_this_word, flag_at}
@@ -16,7 +17,7 @@ use Rattle.ir_part.specs.Lists.{Row, Leading}
 use Rattle.ir_part.specs.Laws.{IsWidth, IsTyped}
 use Rattle.ir_part.specs.Numbers.{width_at, number_at}
 use Rattle.ir_part.specs.Types.{type_at, is_bit}
-use Rattle.ir_part.specs.Operands.{indices_from, inbounds_only, number_index, form_head, form_tail, form_at, address_at, truth_word, value_word, value_step, base_within, operand_at, typed_at}
+use Rattle.ir_part.specs.Operands.{indices_from, bounds_at, number_index, form_head, form_tail, form_at, address_at, truth_word, value_word, value_step, base_within, operand_at, typed_at}
 use Rattle.ir_part.proofs.Fronts.{bound, some_is, if_some, text_is, word_is, after_mark_is, after_word_is, number_sound, number_complete, width_sound, width_complete}
 use Rattle.ir_part.proofs.Lists.{IsElement, some_sound, some_complete}
 use Rattle.ir_part.proofs.TypeLaws.{type_sound, type_complete}
@@ -56,6 +57,42 @@ flag_there text rest same = ap (λ b. flag_read b (word text) rest) same
 pub flag_complete : (text : List ℕ) → bytes_eq text text ≡ true → (x : Bool) (front rest : List Tok) → after_word text rest ≡ None → IsOptional text x front → flag_at text (front ++ rest) ≡ Some (x, rest)
 flag_complete text same true front rest none s = ap (λ us. flag_at text (us ++ rest)) s ∙ flag_there text rest same
 flag_complete text same false front rest none s = ap (λ us. flag_at text (us ++ rest)) s ∙ flag_none text rest none
+
+-- ---- the flags of an address form
+
+bounds_sound : IsSound SpellsBounds bounds_at
+bounds_sound ts x rest h =
+    let f = bound (flag_at (codes "inbounds") ts) (λ (f : Bool × List Tok). flag_at (codes "nuw") f.1 >>= (λ (g : Bool × List Tok). if is_bounded f.0 g.0 then Some (offset_flags f.0 g.0, g.1) else None)) (x, rest) h in
+    let g = bound (flag_at (codes "nuw") f.value.1) (λ (g : Bool × List Tok). if is_bounded f.value.0 g.0 then Some (offset_flags f.value.0 g.0, g.1) else None) (x, rest) f.rest in
+    let first = flag_sound (codes "inbounds") ts f.value.0 f.value.1 f.was in
+    let second = flag_sound (codes "nuw") f.value.1 g.value.0 g.value.1 g.was in
+    elim (if_some (is_bounded f.value.0 g.value.0) (Some (offset_flags f.value.0 g.value.0, g.value.1)) None (x, rest) g.rest) [
+      | inl p ↦ (let e : (offset_flags f.value.0 g.value.0, g.value.1) ≡ (x, rest) = some_is p.1 in
+          record {
+            front = first.front ++ second.front;
+            spelled = (f.value.0, g.value.0, first.front, second.front, first.spelled, second.spelled, p.0, sym (ap (λ q. q.0) e), refl);
+            parts = first.parts ∙ ap (λ us. first.front ++ us) (second.parts ∙ ap (λ q. second.front ++ q.1) e) ∙ sym (append_assoc first.front second.front rest);
+          })
+      | inr p ↦ absurd (never_none p.1)
+    ]
+  where
+    never_none : None ≡ Some (x, rest) → ⊥
+    never_none e = cc
+
+no_inbounds_by : (b : Bool) (front rest : List Tok) → IsOptional (codes "nuw") b front → after_word (codes "inbounds") rest ≡ None → after_word (codes "inbounds") (front ++ rest) ≡ None
+no_inbounds_by true front rest s none = ap (λ us. after_word (codes "inbounds") (us ++ rest)) s
+no_inbounds_by false front rest s none = ap (λ us. after_word (codes "inbounds") (us ++ rest)) s ∙ none
+
+-- they are told from what stands behind them
+bounds_complete : (x : Flags) (front rest : List Tok) → after_word (codes "inbounds") rest ≡ None → after_word (codes "nuw") rest ≡ None → SpellsBounds x front → bounds_at (front ++ rest) ≡ Some (x, rest)
+bounds_complete x front rest no_first no_second s =
+    ap (λ us. bounds_at (us ++ rest)) s.8
+    ∙ ap bounds_at (append_assoc s.2 s.3 rest)
+    ∙ ap (λ o. o >>= (λ (f : Bool × List Tok). flag_at (codes "nuw") f.1 >>= (λ (g : Bool × List Tok). if is_bounded f.0 g.0 then Some (offset_flags f.0 g.0, g.1) else None)))
+    (flag_complete (codes "inbounds") refl s.0 s.2 (s.3 ++ rest) (no_inbounds_by s.1 s.3 rest s.5 no_first) s.4)
+    ∙ ap (λ o. o >>= (λ (g : Bool × List Tok). if is_bounded s.0 g.0 then Some (offset_flags s.0 g.0, g.1) else None)) (flag_complete (codes "nuw") refl s.1 s.3 rest no_second s.5)
+    ∙ ap (λ b. if b then Some (offset_flags s.0 s.1, rest) else None) s.6
+    ∙ ap (λ f. Some (f, rest)) (sym s.7)
 
 -- ---- the indices of a constant address form
 
@@ -165,14 +202,14 @@ FormOver n g ts = SpellsForm g (word (codes "getelementptr") ∷ ts) × (form_ne
 abbrev pub BaseWithin : ℕ → Val → List Tok → Type 0
 BaseWithin n v ts = SpellsVal v pointer ts × (nesting v < n)
 
--- `[inbounds] ( T , ptr`
-abbrev IsHead : Bool × Ty → List Tok → Type 0
-IsHead h ts = (flag : List Tok) × (over : List Tok) × IsOptional (codes "inbounds") h.0 flag × SpellsType h.1 over × (ts ≡ flag ++ mark 40 ∷ (over ++ mark 44 ∷ word (codes "ptr") ∷ []))
+-- `[inbounds [nuw]] ( T , ptr`
+abbrev IsHead : Flags × Ty → List Tok → Type 0
+IsHead h ts = (flag : List Tok) × (over : List Tok) × SpellsBounds h.0 flag × SpellsType h.1 over × (ts ≡ flag ++ mark 40 ∷ (over ++ mark 44 ∷ word (codes "ptr") ∷ []))
 
 -- `V , iN number , .. )`
-abbrev IsTail : ℕ → Bool × Ty → Form → List Tok → Type 0
+abbrev IsTail : ℕ → Flags × Ty → Form → List Tok → Type 0
 IsTail n h g ts =
-    (v : Val) × (is : Indices) × (at : List Tok) × (ix : List Tok) × (g ≡ form (inbounds_only h.0) h.1 v is)
+    (v : Val) × (is : Indices) × (at : List Tok) × (ix : List Tok) × (g ≡ form h.0 h.1 v is)
     × SpellsVal v pointer at × (nesting v < n) × SpellsNumbers is ix × HasIndices is × (ts ≡ at ++ ix ++ mark 41 ∷ [])
 
 form_join : (fl ty back : List Tok) → (fl ++ mark 40 ∷ (ty ++ mark 44 ∷ word (codes "ptr") ∷ [])) ++ back ≡ fl ++ mark 40 ∷ (ty ++ mark 44 ∷ word (codes "ptr") ∷ back)
@@ -180,13 +217,13 @@ form_join fl ty back =
     append_assoc fl (mark 40 ∷ (ty ++ mark 44 ∷ word (codes "ptr") ∷ [])) back
     ∙ ap (λ us. fl ++ (mark 40 ∷ us)) (append_assoc ty (mark 44 ∷ word (codes "ptr") ∷ []) back)
 
-abbrev head_pair : Bool → Ty → List Tok → (Bool × Ty) × List Tok
+abbrev head_pair : Flags → Ty → List Tok → (Flags × Ty) × List Tok
 head_pair b t ts = ((b, t), ts)
 
 abbrev form_pair : Form → List Tok → Form × List Tok
 form_pair g ts = (g, ts)
 
-head_shape : (ts t1 t2 t3 t4 t5 : List Tok) (b : Bool) (t : Ty) (x : Bool × Ty) (rest : List Tok) → Takes (IsOptional (codes "inbounds")) ts b t1 → t1 ≡ mark 40 ∷ t2 → Takes SpellsType t2 t t3
+head_shape : (ts t1 t2 t3 t4 t5 : List Tok) (b : Flags) (t : Ty) (x : Flags × Ty) (rest : List Tok) → Takes SpellsBounds ts b t1 → t1 ≡ mark 40 ∷ t2 → Takes SpellsType t2 t t3
     → t3 ≡ mark 44 ∷ t4 → t4 ≡ word (codes "ptr") ∷ t5 → head_pair b t t5 ≡ (x, rest) → Takes IsHead ts x rest
 head_shape ts t1 t2 t3 t4 t5 b t x rest fs p1 tys p3 p4 e =
     let front = fs.front ++ mark 40 ∷ (tys.front ++ mark 44 ∷ word (codes "ptr") ∷ []) in
@@ -200,16 +237,16 @@ head_shape ts t1 t2 t3 t4 t5 b t x rest fs p1 tys p3 p4 e =
 
 head_sound : IsSound IsHead form_head
 head_sound ts x rest h =
-    let f = bound (flag_at (codes "inbounds") ts) (λ (f : Bool × List Tok). after_mark 40 f.1 >>= (λ (us : List Tok). type_at us >>= (λ (t : Ty × List Tok). after_mark 44 t.1 >>= (λ (vs : List Tok). after_word (codes "ptr") vs >>= (λ (ws : List Tok). Some ((f.0, t.0), ws)))))) (x, rest) h in
+    let f = bound (bounds_at ts) (λ (f : Flags × List Tok). after_mark 40 f.1 >>= (λ (us : List Tok). type_at us >>= (λ (t : Ty × List Tok). after_mark 44 t.1 >>= (λ (vs : List Tok). after_word (codes "ptr") vs >>= (λ (ws : List Tok). Some ((f.0, t.0), ws)))))) (x, rest) h in
     let a = bound (after_mark 40 f.value.1) (λ (us : List Tok). type_at us >>= (λ (t : Ty × List Tok). after_mark 44 t.1 >>= (λ (vs : List Tok). after_word (codes "ptr") vs >>= (λ (ws : List Tok). Some ((f.value.0, t.0), ws))))) (x, rest) f.rest in
     let t = bound (type_at a.value) (λ (t : Ty × List Tok). after_mark 44 t.1 >>= (λ (vs : List Tok). after_word (codes "ptr") vs >>= (λ (ws : List Tok). Some ((f.value.0, t.0), ws)))) (x, rest) a.rest in
     let c = bound (after_mark 44 t.value.1) (λ (vs : List Tok). after_word (codes "ptr") vs >>= (λ (ws : List Tok). Some ((f.value.0, t.value.0), ws))) (x, rest) t.rest in
     let p = bound (after_word (codes "ptr") c.value) (λ (ws : List Tok). Some ((f.value.0, t.value.0), ws)) (x, rest) c.rest in
-    head_shape ts f.value.1 a.value t.value.1 c.value p.value f.value.0 t.value.0 x rest (flag_sound (codes "inbounds") ts f.value.0 f.value.1 f.was) (after_mark_is 40 f.value.1 a.value a.was)
+    head_shape ts f.value.1 a.value t.value.1 c.value p.value f.value.0 t.value.0 x rest (bounds_sound ts f.value.0 f.value.1 f.was) (after_mark_is 40 f.value.1 a.value a.was)
     (type_sound a.value t.value.0 t.value.1 t.was) (after_mark_is 44 t.value.1 c.value c.was) (after_word_is (codes "ptr") c.value p.value p.was) (some_is p.rest)
 
-tail_shape : (n : ℕ) (h : Bool × Ty) (ts t1 t2 t3 : List Tok) (v : Val) (is : List (Ty × Val)) (x : Form) (rest : List Tok) → Takes (BaseWithin n) ts v t1 → Takes (Leading IsIndex IsIndex) t1 is t2
-    → t2 ≡ mark 41 ∷ t3 → form_pair (form (inbounds_only h.0) h.1 v (indices_from is)) t3 ≡ (x, rest) → Takes (IsTail n h) ts x rest
+tail_shape : (n : ℕ) (h : Flags × Ty) (ts t1 t2 t3 : List Tok) (v : Val) (is : List (Ty × Val)) (x : Form) (rest : List Tok) → Takes (BaseWithin n) ts v t1 → Takes (Leading IsIndex IsIndex) t1 is t2
+    → t2 ≡ mark 41 ∷ t3 → form_pair (form h.0 h.1 v (indices_from is)) t3 ≡ (x, rest) → Takes (IsTail n h) ts x rest
 tail_shape n h ts t1 t2 t3 v is x rest bs led p e =
     let ixs = leading_spelled is led.front led.spelled in
     let front = bs.front ++ led.front ++ mark 41 ∷ [] in
@@ -220,11 +257,11 @@ tail_shape n h ts t1 t2 t3 v is x rest bs led p e =
           ∙ sym (append_assoc (bs.front ++ led.front) (mark 41 ∷ []) rest ∙ append_assoc bs.front led.front (mark 41 ∷ rest));
     }
 
-tail_sound : (n : ℕ) (base : Reader Val) → IsSound (BaseWithin n) base → (h : Bool × Ty) → IsSound (IsTail n h) (form_tail base h)
+tail_sound : (n : ℕ) (base : Reader Val) → IsSound (BaseWithin n) base → (h : Flags × Ty) → IsSound (IsTail n h) (form_tail base h)
 tail_sound n base sound h ts x rest was =
-    let b = bound (base ts) (λ (b : Val × List Tok). some (is_closed 41) number_index number_index b.1 >>= (λ (is : List (Ty × Val) × List Tok). after_mark 41 is.1 >>= (λ (ys : List Tok). Some (form (inbounds_only h.0) h.1 b.0 (indices_from is.0), ys)))) (x, rest) was in
-    let i = bound (some (is_closed 41) number_index number_index b.value.1) (λ (is : List (Ty × Val) × List Tok). after_mark 41 is.1 >>= (λ (ys : List Tok). Some (form (inbounds_only h.0) h.1 b.value.0 (indices_from is.0), ys))) (x, rest) b.rest in
-    let z = bound (after_mark 41 i.value.1) (λ (ys : List Tok). Some (form (inbounds_only h.0) h.1 b.value.0 (indices_from i.value.0), ys)) (x, rest) i.rest in
+    let b = bound (base ts) (λ (b : Val × List Tok). some (is_closed 41) number_index number_index b.1 >>= (λ (is : List (Ty × Val) × List Tok). after_mark 41 is.1 >>= (λ (ys : List Tok). Some (form h.0 h.1 b.0 (indices_from is.0), ys)))) (x, rest) was in
+    let i = bound (some (is_closed 41) number_index number_index b.value.1) (λ (is : List (Ty × Val) × List Tok). after_mark 41 is.1 >>= (λ (ys : List Tok). Some (form h.0 h.1 b.value.0 (indices_from is.0), ys))) (x, rest) b.rest in
+    let z = bound (after_mark 41 i.value.1) (λ (ys : List Tok). Some (form h.0 h.1 b.value.0 (indices_from i.value.0), ys)) (x, rest) i.rest in
     let led = some_sound IsIndex IsIndex (is_closed 41) number_index number_index index_sound index_sound b.value.1 i.value.0 i.value.1 i.was in
     tail_shape n h ts b.value.1 i.value.1 z.value b.value.0 i.value.0 x rest (sound ts b.value.0 b.value.1 b.was) led.takes (after_mark_is 41 i.value.1 z.value z.was) (some_is z.rest)
 
@@ -238,15 +275,13 @@ form_spread fl ty bs ix rest =
     ∙ sym (append_assoc ty (mark 44 ∷ word (codes "ptr") ∷ []) (back ++ rest)))
     ∙ sym (append_assoc fl (mark 40 ∷ (ty ++ mark 44 ∷ word (codes "ptr") ∷ [])) (back ++ rest))
 
-form_made : (n : ℕ) (h : Bool × Ty) (g : Form) (front back : List Tok) → IsHead h front → IsTail n h g back → FormOver n g (front ++ back)
+form_made : (n : ℕ) (h : Flags × Ty) (g : Form) (front back : List Tok) → IsHead h front → IsTail n h g back → FormOver n g (front ++ back)
 form_made n h g front back hs ts =
-    let made : SpellsForm (form (inbounds_only h.0) h.1 ts.0 ts.1) (word (codes "getelementptr") ∷ (front ++ back)) = (
-      h.0,
+    let made : SpellsForm (form h.0 h.1 ts.0 ts.1) (word (codes "getelementptr") ∷ (front ++ back)) = (
       hs.0,
       hs.1,
       ts.2,
       ts.3,
-      refl,
       hs.2,
       hs.3,
       ts.5,
@@ -258,7 +293,7 @@ form_made n h g front back hs ts =
 
 form_sound : (n : ℕ) (base : Reader Val) → IsSound (BaseWithin n) base → IsSound (FormOver n) (form_at base)
 form_sound n base sound ts x rest was =
-    let h = bound (form_head ts) (λ (h : (Bool × Ty) × List Tok). form_tail base h.0 h.1) (x, rest) was in
+    let h = bound (form_head ts) (λ (h : (Flags × Ty) × List Tok). form_tail base h.0 h.1) (x, rest) was in
     let hs = head_sound ts h.value.0 h.value.1 h.was in
     let tail = tail_sound n base sound h.value.0 h.value.1 x rest h.rest in
     record {
@@ -402,10 +437,10 @@ head_complete h front rest s =
     let r1 = mark 40 ∷ (s.1 ++ back) in
     ap (λ us. form_head (us ++ rest)) s.4
     ∙ ap form_head (form_join s.0 s.1 rest)
-    ∙ ap (λ o. o >>= (λ (f : Bool × List Tok). after_mark 40 f.1 >>= (λ (us : List Tok). type_at us >>= (λ (t : Ty × List Tok). after_mark 44 t.1 >>= (λ (vs : List Tok). after_word (codes "ptr") vs >>= (λ (ws : List Tok). Some ((f.0, t.0), ws))))))) (flag_complete (codes "inbounds") refl h.0 s.0 r1 refl s.2)
+    ∙ ap (λ o. o >>= (λ (f : Flags × List Tok). after_mark 40 f.1 >>= (λ (us : List Tok). type_at us >>= (λ (t : Ty × List Tok). after_mark 44 t.1 >>= (λ (vs : List Tok). after_word (codes "ptr") vs >>= (λ (ws : List Tok). Some ((f.0, t.0), ws))))))) (bounds_complete h.0 s.0 r1 refl refl s.2)
     ∙ ap (λ o. o >>= (λ (t : Ty × List Tok). after_mark 44 t.1 >>= (λ (vs : List Tok). after_word (codes "ptr") vs >>= (λ (ws : List Tok). Some ((h.0, t.0), ws))))) (type_complete h.1 s.1 back s.3)
 
-tail_complete : (n : ℕ) (base : Reader Val) → IsComplete (BaseWithin n) base → (h : Bool × Ty) → IsComplete (IsTail n h) (form_tail base h)
+tail_complete : (n : ℕ) (base : Reader Val) → IsComplete (BaseWithin n) base → (h : Flags × Ty) → IsComplete (IsTail n h) (form_tail base h)
 tail_complete n base complete h g front rest s =
     let v = s.0 in
     let is = s.1 in
@@ -414,22 +449,22 @@ tail_complete n base complete h g front rest s =
     let led = leading_listed is ix s.7 s.8 in
     ap (λ us. form_tail base h (us ++ rest)) s.9
     ∙ ap (form_tail base h) (append_assoc (at ++ ix) (mark 41 ∷ []) rest ∙ append_assoc at ix (mark 41 ∷ rest))
-    ∙ ap (λ o. o >>= (λ (b : Val × List Tok). some (is_closed 41) number_index number_index b.1 >>= (λ (js : List (Ty × Val) × List Tok). after_mark 41 js.1 >>= (λ (ys : List Tok). Some (form (inbounds_only h.0) h.1 b.0 (indices_from js.0), ys))))) (complete v at (ix ++ mark 41 ∷ rest) (s.5, s.6))
-    ∙ ap (λ o. o >>= (λ (js : List (Ty × Val) × List Tok). after_mark 41 js.1 >>= (λ (ys : List Tok). Some (form (inbounds_only h.0) h.1 v (indices_from js.0), ys)))) (some_complete IsIndex IsIndex (is_closed 41) number_index number_index index_complete index_element (list_of is) ix (mark 41 ∷ rest) led refl)
-    ∙ ap (λ js. Some (form (inbounds_only h.0) h.1 v js, rest)) (of_list is)
+    ∙ ap (λ o. o >>= (λ (b : Val × List Tok). some (is_closed 41) number_index number_index b.1 >>= (λ (js : List (Ty × Val) × List Tok). after_mark 41 js.1 >>= (λ (ys : List Tok). Some (form h.0 h.1 b.0 (indices_from js.0), ys))))) (complete v at (ix ++ mark 41 ∷ rest) (s.5, s.6))
+    ∙ ap (λ o. o >>= (λ (js : List (Ty × Val) × List Tok). after_mark 41 js.1 >>= (λ (ys : List Tok). Some (form h.0 h.1 v (indices_from js.0), ys)))) (some_complete IsIndex IsIndex (is_closed 41) number_index number_index index_complete index_element (list_of is) ix (mark 41 ∷ rest) led refl)
+    ∙ ap (λ js. Some (form h.0 h.1 v js, rest)) (of_list is)
     ∙ ap (λ k. Some (k, rest)) (sym s.4)
 
 form_complete : (n : ℕ) (base : Reader Val) → IsComplete (BaseWithin n) base → (g : Form) (front rest : List Tok) → SpellsForm g front → form_nesting g ≤ n
     → (behind : List Tok) × (front ≡ word (codes "getelementptr") ∷ behind) × (form_at base (behind ++ rest) ≡ Some (g, rest))
 form_complete n base complete (form flags t v is) front rest s deep =
-    let first = s.1 ++ mark 40 ∷ (s.2 ++ mark 44 ∷ word (codes "ptr") ∷ []) in
-    let back = s.3 ++ s.4 ++ mark 41 ∷ [] in
-    let behind = s.1 ++ mark 40 ∷ (s.2 ++ mark 44 ∷ word (codes "ptr") ∷ back) in (
+    let first = s.0 ++ mark 40 ∷ (s.1 ++ mark 44 ∷ word (codes "ptr") ∷ []) in
+    let back = s.2 ++ s.3 ++ mark 41 ∷ [] in
+    let behind = s.0 ++ mark 40 ∷ (s.1 ++ mark 44 ∷ word (codes "ptr") ∷ back) in (
       behind,
-      s.11,
-      ap (form_at base) (form_spread s.1 s.2 s.3 s.4 rest)
-          ∙ ap (λ o. o >>= (λ (h : (Bool × Ty) × List Tok). form_tail base h.0 h.1)) (head_complete (s.0, t) first (back ++ rest) (s.1, s.2, s.6, s.7, refl))
-          ∙ tail_complete n base complete (s.0, t) (form flags t v is) back rest (v, is, s.3, s.4, ap (λ f. form f t v is) s.5, s.8, omega (arith, deep), s.9, s.10, refl),
+      s.9,
+      ap (form_at base) (form_spread s.0 s.1 s.2 s.3 rest)
+          ∙ ap (λ o. o >>= (λ (h : (Flags × Ty) × List Tok). form_tail base h.0 h.1)) (head_complete (flags, t) first (back ++ rest) (s.0, s.1, s.4, s.5, refl))
+          ∙ tail_complete n base complete (flags, t) (form flags t v is) back rest (v, is, s.2, s.3, refl, s.6, omega (arith, deep), s.7, s.8, refl),
     )
 
 is_bit_there : (over : Ty) → over ≡ integer 1 → is_bit over ≡ true

@@ -4,7 +4,7 @@ use Rattle.ir_ast.specs.Plain.{Ty, integer, Val, local, global, number, null, po
 use Rattle.ir_ast.specs.declared.operand.Flags.{Flags}
 use Rattle.ir_lex.specs.Names.{sigil_name}
 use Rattle.ir_lex.specs.Decimal.{number_of}
-use Rattle.ir_lex.specs.ValueSpelling.{no_flags}
+use Rattle.ir_lex.specs.ValueSpelling.{offset_flags, is_bounded}
 use Rattle.ir_lex.specs.declared.token.TokenKind.{TokenKind}
 use Rattle.ir_lex.specs.declared.token.TokenKind.TheVariants.{Word, Number, Local, Global}
 use Rattle.ir_part.specs.Reader.{Reader, ◌>>=◌}
@@ -18,8 +18,12 @@ abbrev pub indices_from : List (Ty × Val) → Indices
 indices_from [] = no_indices
 indices_from (i ∷ is) = index_and i.0 i.1 (indices_from is)
 
-abbrev pub inbounds_only : Bool → Flags
-inbounds_only inbounds = record no_flags { inbounds = inbounds }
+-- `[inbounds [nuw]]`
+abbrev pub bounds_at : Reader Flags
+bounds_at ts = do
+  inbounds ← flag_at (codes "inbounds") ts
+  nuw ← flag_at (codes "nuw") inbounds.1
+  if is_bounded inbounds.0 nuw.0 then Some (offset_flags inbounds.0 nuw.0, nuw.1) else None
 
 -- `, iN number`
 abbrev pub number_index : Reader (Ty × Val)
@@ -29,25 +33,25 @@ number_index ts = do
   n ← number_at w.1
   Some ((integer w.0, number n.0), n.1)
 
--- `[inbounds] ( T , ptr`
-abbrev pub form_head : Reader (Bool × Ty)
+-- `[inbounds [nuw]] ( T , ptr`
+abbrev pub form_head : Reader (Flags × Ty)
 form_head ts = do
-  inbounds ← flag_at (codes "inbounds") ts
-  ts ← after_mark 40 inbounds.1
+  flags ← bounds_at ts
+  ts ← after_mark 40 flags.1
   t ← type_at ts
   ts ← after_mark 44 t.1
   ts ← after_word (codes "ptr") ts
-  Some ((inbounds.0, t.0), ts)
+  Some ((flags.0, t.0), ts)
 
 -- `V , iN number , .. )`, given the reader of the base
-abbrev pub form_tail : Reader Val → Bool × Ty → Reader Form
+abbrev pub form_tail : Reader Val → Flags × Ty → Reader Form
 form_tail base head ts = do
   b ← base ts
   offsets ← some (is_closed 41) number_index number_index b.1
   ts ← after_mark 41 offsets.1
-  Some (form (inbounds_only head.0) head.1 b.0 (indices_from offsets.0), ts)
+  Some (form head.0 head.1 b.0 (indices_from offsets.0), ts)
 
--- `[inbounds] ( T , ptr V , iN number , .. )` behind the word
+-- `[inbounds [nuw]] ( T , ptr V , iN number , .. )` behind the word
 abbrev pub form_at : Reader Val → Reader Form
 form_at base ts = form_head ts >>= (λ head. form_tail base head.0 head.1)
 

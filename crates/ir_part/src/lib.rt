@@ -22,7 +22,7 @@ pub use number::{
     align_at, are_digits, count_at, count_of, is_over_wide, number_at, number_of, width_at,
     width_of,
 };
-pub use operand::{inbounds_only, is_bit, operand_at, typed_at};
+pub use operand::{is_bit, offset_flags, operand_at, typed_at};
 pub use same::same_type;
 pub use stop::PartStop;
 pub use types::{result_at, type_at};

@@ -3,6 +3,7 @@
 ghost use Rattle.std.specs.Prelude.{◌≡◌, map};
 ghost use Rattle.ir_ast.specs.View.{view_type, view_operand, view_gep};
 ghost use Rattle.ir_ast.specs.ProgramView.{view_typed};
+ghost use Rattle.ir_lex.specs.ValueSpelling.{offset_flags};
 ghost use Rattle.ir_part.specs.Reader.{Gives, seen};
 ghost use Rattle.ir_part.specs.Many.{some, is_closed};
 ghost use Rattle.ir_part.specs.Types as types;
@@ -151,7 +152,7 @@ fn truth_word<'t>(
     }
 }
 
-/// `[inbounds] ( T , ptr V , iN number , .. )` as an operand.
+/// `[inbounds [nuw]] ( T , ptr V , iN number , .. )` as an operand.
 #[cycle(operands)]
 fn address_at<'t>(
     alloc: Global,
@@ -165,7 +166,7 @@ fn address_at<'t>(
     Ok((Operand::address_of(form), rest))
 }
 
-/// `[inbounds] ( T , ptr V , iN number , .. )`
+/// `[inbounds [nuw]] ( T , ptr V , iN number , .. )`
 #[cycle(operands)]
 #[tactic(auto, using(crate::proofs::OperandSteps::indices_seen))]
 fn form_at<'t>(
@@ -175,26 +176,26 @@ fn form_at<'t>(
 ) -> Result<(Gep, &'t [Token<'t>]), PartStop>
     ensures { Gives (λ x. (view_gep x.0, seen x.1.now)) result (definition.form_at (definition.base_within nested) (seen tokens.now)) }
 {
-    let ((inbounds, over), rest) = form_head(alloc, tokens)?;
+    let ((flags, over), rest) = form_head(alloc, tokens)?;
     let (base, rest) = base_within(alloc, nested, rest)?;
     let (indices, rest) = number_indices(alloc, rest)?;
     let rest = after_mark(b')', rest)?;
-    Ok((Gep::of(inbounds_only(inbounds), over, base, indices), rest))
+    Ok((Gep::of(flags, over, base, indices), rest))
 }
 
-/// `[inbounds] ( T , ptr`: whether the word stands there, and the type.
+/// `[inbounds [nuw]] ( T , ptr`: the flags, and the type.
 fn form_head<'t>(
     alloc: Global,
     tokens: &'t [Token<'t>],
-) -> Result<((bool, IrType), &'t [Token<'t>]), PartStop>
+) -> Result<((Flags, IrType), &'t [Token<'t>]), PartStop>
     ensures { Gives (λ x. ((x.0.0, view_type x.0.1), seen x.1.now)) result (definition.form_head (seen tokens.now)) }
 {
-    let (inbounds, rest) = flag_at(b"inbounds", tokens);
+    let (flags, rest) = bounds_at(tokens)?;
     let rest = after_mark(b'(', rest)?;
     let (over, rest) = type_at(alloc, rest)?;
     let rest = after_mark(b',', rest)?;
     let rest = after_word(b"ptr", rest)?;
-    Ok(((inbounds, over), rest))
+    Ok(((flags, over), rest))
 }
 
 /// The base of a constant address form, where so many may stand in one another, this one counted.
@@ -214,12 +215,25 @@ fn base_within<'t>(
     }
 }
 
-/// No flag, or `inbounds` alone.
-pub fn inbounds_only(inbounds: bool) -> Flags
-    ensures { result ≡ definition.inbounds_only inbounds }
+/// `[inbounds [nuw]]`
+fn bounds_at<'t>(tokens: &'t [Token<'t>]) -> Result<(Flags, &'t [Token<'t>]), PartStop>
+    ensures { Gives (λ x. (x.0, seen x.1.now)) result (definition.bounds_at (seen tokens.now)) }
+{
+    let (inbounds, rest) = flag_at(b"inbounds", tokens);
+    let (nuw, rest) = flag_at(b"nuw", rest);
+    if inbounds || !nuw {
+        Ok((offset_flags(inbounds, nuw), rest))
+    } else {
+        Err(PartStop::NotSpelled)
+    }
+}
+
+/// The flags of a `getelementptr`.
+pub fn offset_flags(inbounds: bool, nuw: bool) -> Flags
+    ensures { result ≡ offset_flags inbounds nuw }
 {
     Flags {
-        nuw: false,
+        nuw,
         nsw: false,
         exact: false,
         disjoint: false,

@@ -4,7 +4,7 @@ use Rattle.std.proofs.lemmas.Bool.{eqb-true}
 use Rattle.ir_lex.specs.Lexeme.{Lexeme}
 use Rattle.ir_lex.specs.Marks.{is_word, is_word_kind, is_mark, is_mark_kind, is_byte}
 use Rattle.ir_lex.specs.Cut.{Cut, begins_define}
-use Rattle.ir_lex.specs.Drop.{is_dropped_item, is_label_item, remaining, remaining_from, is_label, label_kind}
+use Rattle.ir_lex.specs.Drop.{is_dropped_item, remaining, remaining_from, is_label, label_kind}
 use Rattle.ir_lex.specs.Names.{plain_name}
 use Rattle.ir_lex.specs.Tok.{Tok, tok, toks, word, mark}
 use Rattle.ir_lex.specs.Items.{layout_item, type_item, global_item, declare_item, label_item, instr_item, close_item, storage_word, SpellsInner, ReadsTop, ReadsInner}
@@ -49,13 +49,9 @@ word_is text t e = let p = word_by text t.kind t.text e in
 
 -- ---- the word `define`
 
-and_false : (a : Bool) → (a && false) ≡ false
-and_false true = refl
-and_false false = refl
-
 define_kept : (line : ℕ) (ts : List Lexeme) → is_dropped_item (as_word (codes "define") line ∷ ts) ≡ false
-unfolding is_dropped_item is_word
-define_kept line ts = and_false (not (is_label_item (as_word (codes "define") line ∷ ts)))
+unfolding is_dropped_item is_word is_mark
+define_kept line ts = refl
 
 record Begins (t : Tok) (ts : List Tok) : Type 0 where
   rest : List Tok

@@ -15,6 +15,7 @@ use Rattle.ir_lex.specs.Decimal.{digits_from, digits_value, are_some_digits, wid
 use Rattle.ir_lex.specs.Tok.{Tok}
 use Rattle.ir_lex.specs.TypeSpelling.{Spells}
 use Rattle.ir_lex.specs.Parts.{SpellsTyped, SpellsPair}
+use Rattle.ir_lex.specs.ValueSpelling.{is_bounded}
 use Rattle.ir_lex.specs.Rows as rows
 use Rattle.ir_lex.specs.Rows.{Row, Sets, does, might, never, SpellsSetting, SpellsRow, SpellsInstr, where_holds}
 use Rattle.ir_type.specs.Shape.{keeps_notes, sets_its_own, is_width, is_signed}
@@ -171,21 +172,23 @@ signed_same Sle = refl
 
 comparing : (text : List ℕ) → IsGood (text, rows.comparing)
 comparing text line result act ts (setting, rest, got, s, spelled, built, parts) =
-    let t = got.1.0.0 in
-    let w = where_is (rows.is_scalar t && not (rows.is_pointer_type t && rows.is_signed got.0)) _ act built in
-    let notes : (is_scalar t && not (is_pointer t && is_signed got.0)) ≡ true =
-    sym (λ i. scalar_same t i && not (pointer_same t i && signed_same got.0 i)) ∙ w.0 in
-    kept_does line result act _ (is_scalar t && not (is_pointer t && is_signed got.0)) setting (ap Some w.1) s notes (λ h. h)
+    let t = got.1.1.0.0 in
+    let w = where_is (rows.is_scalar t && not (rows.is_pointer_type t && (got.0 || rows.is_signed got.1.0))) _ act built in
+    let notes : (is_scalar t && not (is_pointer t && (got.0 || is_signed got.1.0))) ≡ true =
+    sym (λ i. scalar_same t i && not (pointer_same t i && (got.0 || signed_same got.1.0 i))) ∙ w.0 in
+    kept_does line result act _ (is_scalar t && not (is_pointer t && (got.0 || is_signed got.1.0))) setting (ap Some w.1) s notes (λ h. h)
 
 selecting : (text : List ℕ) → IsGood (text, rows.selecting)
 selecting text line result act ts (setting, rest, got, s, spelled, built, parts) = kept_does line result act _ true setting built s refl (λ h. h)
 
 truncating : (text : List ℕ) → IsGood (text, rows.truncating)
 truncating text line result act ts (setting, rest, got, s, spelled, built, parts) =
-    let w = where_is (nat_lt got.1.1.0 got.0.0) _ act built in
-    let widths = both (is_width got.0.0) (is_width got.1.1.0) (typed_width _ _ _ spelled.2) (width_is _ _ spelled.3.3.2.0) in
-    kept_does line result act _ ((is_width got.0.0 && is_width got.1.1.0) && nat_lt got.1.1.0 got.0.0) setting (ap Some w.1) s
-    (both (is_width got.0.0 && is_width got.1.1.0) (nat_lt got.1.1.0 got.0.0) widths w.0) (λ h. h)
+    let from = got.1.1.0.0 in
+    let to = got.1.1.1.1.0 in
+    let w = where_is (nat_lt to from) _ act built in
+    let widths = both (is_width from) (is_width to) (typed_width _ _ _ spelled.3.3.2) (width_is _ _ spelled.3.3.3.3.2.0) in
+    kept_does line result act _ ((is_width from && is_width to) && nat_lt to from) setting (ap Some w.1) s
+    (both (is_width from && is_width to) (nat_lt to from) widths w.0) (λ h. h)
 
 zero_extending : (text : List ℕ) → IsGood (text, rows.zero_extending)
 zero_extending text line result act ts (setting, rest, got, s, spelled, built, parts) =
@@ -223,7 +226,9 @@ storing : (text : List ℕ) → IsGood (text, rows.storing)
 storing text line result act ts (setting, rest, got, s, spelled, built, parts) = kept_never line result act _ true setting built s refl (λ h. h)
 
 addressing : (text : List ℕ) → IsGood (text, rows.addressing)
-addressing text line result act ts (setting, rest, got, s, spelled, built, parts) = kept_does line result act _ true setting built s refl (λ h. h)
+addressing text line result act ts (setting, rest, got, s, spelled, built, parts) =
+    let w = where_is (is_bounded got.0 got.1.0) _ act built in
+    kept_does line result act _ true setting (ap Some w.1) s refl (λ h. h)
 
 calling : (text : List ℕ) → IsGood (text, rows.calling)
 calling text line result act ts (setting, rest, got, s, spelled, built, parts) = subst (IsKept line result) (some_is built) refl

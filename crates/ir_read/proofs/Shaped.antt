@@ -163,7 +163,7 @@ labelled_body b next line name body h = by b.block refl h
 -- an instruction
 pub is_last_same : (line : ℕ) (result : Option (List ℕ)) (act : Act) → is_end act ≡ is_last (instr line result act)
 is_last_same line result (binary kind flags w a b) = refl
-is_last_same line result (compare predicate over a b) = refl
+is_last_same line result (compare samesign predicate over a b) = refl
 is_last_same line result (select condition over a b) = refl
 is_last_same line result (convert kind flags from to a) = refl
 is_last_same line result (freeze over a) = refl

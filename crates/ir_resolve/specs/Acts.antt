@@ -47,9 +47,9 @@ compared p true a b = act.ComparePointers p a b
 compared p false a b = act.Unknown
 
 -- of numbers of a width, of pointers, or of neither
-abbrev pub compare_by : ModuleView → FunctionView → Predicate → Option ℕ → Bool → Val → Val → Act
-compare_by m f p (Some w) pointers a b = act.Compare p w (input_of m f (Some w) a) (input_of m f (Some w) b)
-compare_by m f p None pointers a b = compared p pointers (input_of m f None a) (input_of m f None b)
+abbrev pub compare_by : ModuleView → FunctionView → Bool → Predicate → Option ℕ → Bool → Val → Val → Act
+compare_by m f samesign p (Some w) pointers a b = act.Compare samesign p w (input_of m f (Some w) a) (input_of m f (Some w) b)
+compare_by m f samesign p None pointers a b = compared p pointers (input_of m f None a) (input_of m f None b)
 
 -- ---- registers that are named where no operand stands
 
@@ -212,7 +212,7 @@ abbrev pub phi_of : ModuleView → FunctionView → Ty → List (Val × List ℕ
 phi_of m f over arms = act.Phi (arms_of m f (width_in m over) arms)
 
 abbrev pub convert_of : ModuleView → FunctionView → ConvertKind → Flags → ℕ → ℕ → Val → Act
-convert_of m f kind flags from to a = act.Convert kind flags.nneg from to (input_of m f (Some from) a)
+convert_of m f kind flags from to a = act.Convert kind flags from to (input_of m f (Some from) a)
 
 abbrev pub freeze_of : ModuleView → FunctionView → Ty → Val → Act
 freeze_of m f over a = act.Freeze (typed m f over a)
@@ -222,7 +222,7 @@ offset_of m f a = act.Address (form_input m f a)
 
 abbrev pub act_of : ModuleView → FunctionView → plain.Act → Act
 act_of m f (plain.binary kind flags w a b) = binary_of m f kind flags w a b
-act_of m f (plain.compare p over a b) = compare_by m f p (width_in m over) (is_pointer (meant m.types over)) a b
+act_of m f (plain.compare samesign p over a b) = compare_by m f samesign p (width_in m over) (is_pointer (meant m.types over)) a b
 act_of m f (plain.select c over a b) = select_of m f c over a b
 act_of m f (plain.convert kind flags from to a) = convert_of m f kind flags from to a
 act_of m f (plain.freeze over a) = freeze_of m f over a

@@ -12,6 +12,7 @@ use Rattle.ir_measure.specs.Measures.{offset_at}
 use Rattle.ir_typing.specs.Places.{register_names}
 use Rattle.ir_typing.specs.Fits.{modulo}
 use Rattle.ir_value.specs.declared.value.Value.TheVariants.{Number, Null, Address, Poison}
+use Rattle.ir_ast.specs.declared.operand.Flags.{Flags}
 use Rattle.ir_code.specs.declared.input.Base.{Base}
 use Rattle.ir_code.specs.declared.input.Base.TheVariants.{Register, Constant, Unknown}
 use Rattle.ir_code.specs.declared.input.Move.{Move}
@@ -49,17 +50,17 @@ base_of m f w (address a) = Unknown
 -- ---- what is added to it
 
 -- an index over values of a size
-abbrev pub index_move : ModuleView → FunctionView → Bool → ℕ → Option ℕ → Val → Move
-index_move m f inbounds each w v = By inbounds (unwrap_or w 0) each (base_of m f w v)
+abbrev pub index_move : ModuleView → FunctionView → Flags → ℕ → Option ℕ → Val → Move
+index_move m f flags each w v = By flags.inbounds flags.nuw (unwrap_or w 0) each (base_of m f w v)
 
 -- a step to no part of the type
-abbrev pub lost_move : Bool → Move
-lost_move inbounds = By inbounds 64 0 Unknown
+abbrev pub lost_move : Flags → Move
+lost_move flags = By flags.inbounds flags.nuw 64 0 Unknown
 
 -- a field of a struct: one step over the bytes before it
-abbrev pub field_move : Bool → Option ℕ → Move
-field_move inbounds None = lost_move inbounds
-field_move inbounds (Some bytes) = By inbounds 64 bytes (Constant (Number 1))
+abbrev pub field_move : Flags → Option ℕ → Move
+field_move flags None = lost_move flags
+field_move flags (Some bytes) = By flags.inbounds flags.nuw 64 bytes (Constant (Number 1))
 
 -- the field that an index chooses: a constant i32
 abbrev pub field_index : Option ℕ → Val → Option ℕ
@@ -71,9 +72,9 @@ abbrev pub element_of : Ty → Option Ty
 element_of t = option_map (λ p. p.1) (parts.element_of t)
 
 -- the step to a part of a type: over values of its element where it is an array, else to a field
-abbrev pub part_move : ModuleView → FunctionView → Bool → Ty → Option Ty → Option ℕ → Val → Move
-part_move m f inbounds t (Some element) w v = index_move m f inbounds (cut (size_of element)) w v
-part_move m f inbounds t None w v = field_move inbounds (option_and_then (offset_at t) (field_index w v))
+abbrev pub part_move : ModuleView → FunctionView → Flags → Ty → Option Ty → Option ℕ → Val → Move
+part_move m f flags t (Some element) w v = index_move m f flags (cut (size_of element)) w v
+part_move m f flags t None w v = field_move flags (option_and_then (offset_at t) (field_index w v))
 
 -- the part of a type that an index steps to
 abbrev pub part_of : Ty → Option Ty → Option ℕ → Val → Option Ty
@@ -81,9 +82,9 @@ part_of t (Some element) w v = Some element
 part_of t None w v = option_and_then (λ k. field_of k t) (field_index w v)
 
 -- the same from a type on, where the steps before it led to one
-abbrev pub move_from : ModuleView → FunctionView → Bool → Option Ty → Option ℕ → Val → Move
-move_from m f inbounds None w v = lost_move inbounds
-move_from m f inbounds (Some t) w v = part_move m f inbounds t (element_of t) w v
+abbrev pub move_from : ModuleView → FunctionView → Flags → Option Ty → Option ℕ → Val → Move
+move_from m f flags None w v = lost_move flags
+move_from m f flags (Some t) w v = part_move m f flags t (element_of t) w v
 
 abbrev pub part_from : Option Ty → Option ℕ → Val → Option Ty
 part_from None w v = None
@@ -94,16 +95,16 @@ abbrev pub width_in : ModuleView → Ty → Option ℕ
 width_in m over = width_of (meant m.types over)
 
 -- the steps of these indices, from a type on
-abbrev pub part_moves : ModuleView → FunctionView → Bool → Option Ty → Indices → List Move
-part_moves m f inbounds t no_indices = []
-part_moves m f inbounds t (index_and over v is) =
-    move_from m f inbounds t (width_in m over) v ∷ part_moves m f inbounds (part_from t (width_in m over) v) is
+abbrev pub part_moves : ModuleView → FunctionView → Flags → Option Ty → Indices → List Move
+part_moves m f flags t no_indices = []
+part_moves m f flags t (index_and over v is) =
+    move_from m f flags t (width_in m over) v ∷ part_moves m f flags (part_from t (width_in m over) v) is
 
 -- the first index steps over whole values of the type
-abbrev pub moves_of : ModuleView → FunctionView → Bool → Ty → Indices → List Move
-moves_of m f inbounds t no_indices = Begin inbounds ∷ []
-moves_of m f inbounds t (index_and over v is) =
-    Begin inbounds ∷ index_move m f inbounds (cut (size_of t)) (width_in m over) v ∷ part_moves m f inbounds (Some t) is
+abbrev pub moves_of : ModuleView → FunctionView → Flags → Ty → Indices → List Move
+moves_of m f flags t no_indices = Begin flags.inbounds ∷ []
+moves_of m f flags t (index_and over v is) =
+    Begin flags.inbounds ∷ index_move m f flags (cut (size_of t)) (width_in m over) v ∷ part_moves m f flags (Some t) is
 
 abbrev pub plain_input : Base → Input
 plain_input b = record { base = b; moves = [] }
@@ -120,4 +121,4 @@ abbrev mutual
   -- `getelementptr`: what its base begins with, and its steps behind those of its base
   pub form_input : ModuleView → FunctionView → Form → Input
   form_input m f (form flags over base indices) =
-      moved_input (input_of m f None base) (moves_of m f flags.inbounds (meant m.types over) indices)
+      moved_input (input_of m f None base) (moves_of m f flags (meant m.types over) indices)

@@ -74,6 +74,7 @@ fn compare_by(
     alloc: Global,
     context: &Context,
     shapes: &mut Shapes,
+    samesign: bool,
     predicate: Predicate,
     width: Option<u32>,
     pointers: bool,
@@ -81,13 +82,14 @@ fn compare_by(
 ) -> Result<Act, AllocError>
     requires small { IsSmall context.now.kernel.now }
     requires shaped { IsShaped (view_module context.now.kernel.now).types shapes.old }
-    ensures act { IfOk result (λ act. act ≡ definition.compare_by (view_module context.now.kernel.now) (function_in context.now.scope.now) predicate width pointers (view_operand pair.now.a.now) (view_operand pair.now.b.now)) }
+    ensures act { IfOk result (λ act. act ≡ definition.compare_by (view_module context.now.kernel.now) (function_in context.now.scope.now) samesign predicate width pointers (view_operand pair.now.a.now) (view_operand pair.now.b.now)) }
     ensures shaped { IsShaped (view_module context.now.kernel.now).types shapes.new }
 {
     let a = input_of(alloc, context, shapes, width, pair.a)?;
     let b = input_of(alloc, context, shapes, width, pair.b)?;
     match width {
         Some(width) => Ok(Act::Compare {
+            samesign,
             predicate,
             width,
             a,
@@ -114,19 +116,22 @@ fn compare(
     alloc: Global,
     context: &Context,
     shapes: &mut Shapes,
+    samesign: bool,
     predicate: Predicate,
     over: &IrType,
     pair: &OperandPair,
 ) -> Result<Act, AllocError>
     requires small { IsSmall context.now.kernel.now }
     requires shaped { IsShaped (view_module context.now.kernel.now).types shapes.old }
-    ensures act { IfOk result (λ act. act ≡ definition.compare_by (view_module context.now.kernel.now) (function_in context.now.scope.now) predicate (operands.width_in (view_module context.now.kernel.now) (view_type over.now)) (is_pointer (meant (view_module context.now.kernel.now).types (view_type over.now))) (view_operand pair.now.a.now) (view_operand pair.now.b.now)) }
+    ensures act { IfOk result (λ act. act ≡ definition.compare_by (view_module context.now.kernel.now) (function_in context.now.scope.now) samesign predicate (operands.width_in (view_module context.now.kernel.now) (view_type over.now)) (is_pointer (meant (view_module context.now.kernel.now).types (view_type over.now))) (view_operand pair.now.a.now) (view_operand pair.now.b.now)) }
     ensures shaped { IsShaped (view_module context.now.kernel.now).types shapes.new }
 {
     let over = shapes.number(alloc, &context.kernel.types, over)?;
     let width = shapes.width(over);
     let pointers = shapes.is_pointer(over);
-    compare_by(alloc, context, shapes, predicate, width, pointers, pair)
+    compare_by(
+        alloc, context, shapes, samesign, predicate, width, pointers, pair,
+    )
 }
 
 fn select(
@@ -358,7 +363,7 @@ fn convert(
     let a = input_of(alloc, context, shapes, Some(conversion.from), a)?;
     Ok(Act::Convert {
         kind: conversion.kind,
-        nneg: conversion.flags.nneg,
+        flags: conversion.flags,
         from: conversion.from,
         to: conversion.to,
         a,
@@ -421,6 +426,7 @@ fn act_of(alloc: Global, context: &Context, shapes: &mut Shapes, op: &Op) -> Res
             &OperandPair { a, b },
         ),
         Op::Compare {
+            samesign,
             predicate,
             over,
             a,
@@ -429,6 +435,7 @@ fn act_of(alloc: Global, context: &Context, shapes: &mut Shapes, op: &Op) -> Res
             alloc,
             context,
             shapes,
+            *samesign,
             *predicate,
             over,
             &OperandPair { a, b },

@@ -16,7 +16,7 @@ ghost use Rattle.ir_whole.specs.Questions.{field_of};
 use crate::context::Context;
 use crate::literal::{index_in, number_in};
 use hk_seq::Seq;
-use ir_ast::{Gep, IndexList, IrType, Module, Name, Operand};
+use ir_ast::{Flags, Gep, IndexList, IrType, Module, Name, Operand};
 use ir_code::{Base, Input, Move};
 use ir_measure::Shapes;
 use ir_value::Value;
@@ -82,23 +82,25 @@ struct Index<'a> {
 }
 
 /// An index over values of a size in bytes.
-fn index_move(context: &Context, inbounds: bool, each: u64, index: &Index) -> Move
+fn index_move(context: &Context, flags: Flags, each: u64, index: &Index) -> Move
     requires { IsSmall context.now.kernel.now }
-    ensures { result ≡ definition.index_move (view_module context.now.kernel.now) (function_in context.now.scope.now) inbounds each index.now.width (view_operand index.now.operand.now) }
+    ensures { result ≡ definition.index_move (view_module context.now.kernel.now) (function_in context.now.scope.now) flags each index.now.width (view_operand index.now.operand.now) }
 {
     Move::By {
-        inbounds,
+        inbounds: flags.inbounds,
+        nuw: flags.nuw,
         width: index.width.unwrap_or(0),
         each,
         index: base_of(context, index.width, index.operand),
     }
 }
 
-fn lost_move(inbounds: bool) -> Move
-    ensures { result ≡ definition.lost_move inbounds }
+fn lost_move(flags: Flags) -> Move
+    ensures { result ≡ definition.lost_move flags }
 {
     Move::By {
-        inbounds,
+        inbounds: flags.inbounds,
+        nuw: flags.nuw,
         width: 64,
         each: 0,
         index: Base::Unknown,
@@ -106,17 +108,18 @@ fn lost_move(inbounds: bool) -> Move
 }
 
 /// One step over the bytes before a field.
-fn field_move(inbounds: bool, bytes: Option<u64>) -> Move
-    ensures { result ≡ definition.field_move inbounds bytes }
+fn field_move(flags: Flags, bytes: Option<u64>) -> Move
+    ensures { result ≡ definition.field_move flags bytes }
 {
     match bytes {
         Some(each) => Move::By {
-            inbounds,
+            inbounds: flags.inbounds,
+            nuw: flags.nuw,
             width: 64,
             each,
             index: Base::Constant(Value::Number(1)),
         },
-        None => lost_move(inbounds),
+        None => lost_move(flags),
     }
 }
 
@@ -165,7 +168,7 @@ fn bytes_before(shapes: &Shapes, at: u32, field: Option<u32>) -> Option<u64>
 fn part_move(
     context: &Context,
     shapes: &Shapes,
-    inbounds: bool,
+    flags: Flags,
     at: u32,
     element: Option<u32>,
     index: &Index,
@@ -174,14 +177,14 @@ fn part_move(
     requires within { at < count_of shapes.now }
     requires element { IfSome element (λ n. n < at) }
     requires sound { IsSound shapes.now }
-    ensures { result ≡ definition.part_move (view_module context.now.kernel.now) (function_in context.now.scope.now) inbounds (type_in shapes.now at) (option_map (type_in shapes.now) element) index.now.width (view_operand index.now.operand.now) }
+    ensures { result ≡ definition.part_move (view_module context.now.kernel.now) (function_in context.now.scope.now) flags (type_in shapes.now at) (option_map (type_in shapes.now) element) index.now.width (view_operand index.now.operand.now) }
 {
     match element {
         Some(element) => {
             let each = shapes.size_of(element);
-            index_move(context, inbounds, each, index)
+            index_move(context, flags, each, index)
         }
-        None => field_move(inbounds, bytes_before(shapes, at, field_index(index))),
+        None => field_move(flags, bytes_before(shapes, at, field_index(index))),
     }
 }
 
@@ -216,21 +219,21 @@ fn part_of(shapes: &Shapes, at: u32, element: Option<u32>, index: &Index) -> Opt
 fn move_from(
     context: &Context,
     shapes: &Shapes,
-    inbounds: bool,
+    flags: Flags,
     at: Option<u32>,
     index: &Index,
 ) -> Move
     requires small { IsSmall context.now.kernel.now }
     requires within { IfSome at (λ n. n < count_of shapes.now) }
     requires sound { IsSound shapes.now }
-    ensures { result ≡ definition.move_from (view_module context.now.kernel.now) (function_in context.now.scope.now) inbounds (option_map (type_in shapes.now) at) index.now.width (view_operand index.now.operand.now) }
+    ensures { result ≡ definition.move_from (view_module context.now.kernel.now) (function_in context.now.scope.now) flags (option_map (type_in shapes.now) at) index.now.width (view_operand index.now.operand.now) }
 {
     match at {
         Some(at) => {
             let element = element_at(shapes, at);
-            part_move(context, shapes, inbounds, at, element, index)
+            part_move(context, shapes, flags, at, element, index)
         }
-        None => lost_move(inbounds),
+        None => lost_move(flags),
     }
 }
 
@@ -272,7 +275,7 @@ fn add_index(
     alloc: Global,
     context: &Context,
     shapes: &mut Shapes,
-    inbounds: bool,
+    flags: Flags,
     at: Option<u32>,
     index: &(IrType, Operand),
     moves: &mut Seq<Move>,
@@ -280,7 +283,7 @@ fn add_index(
     requires small { IsSmall context.now.kernel.now }
     requires shaped { IsShaped (view_module context.now.kernel.now).types shapes.old }
     requires within { IfSome at (λ n. n < count_of shapes.old) }
-    ensures moves { OnOk result (moves.new ≡ moves.old ++ definition.move_from (view_module context.now.kernel.now) (function_in context.now.scope.now) inbounds (option_map (type_in shapes.old) at) (definition.width_in (view_module context.now.kernel.now) (view_type index.now.0)) (view_operand index.now.1) ∷ []) }
+    ensures moves { OnOk result (moves.new ≡ moves.old ++ definition.move_from (view_module context.now.kernel.now) (function_in context.now.scope.now) flags (option_map (type_in shapes.old) at) (definition.width_in (view_module context.now.kernel.now) (view_type index.now.0)) (view_operand index.now.1) ∷ []) }
     ensures part { IfOk result (λ r. option_map (type_in shapes.new) r ≡ definition.part_from (option_map (type_in shapes.old) at) (definition.width_in (view_module context.now.kernel.now) (view_type index.now.0)) (view_operand index.now.1)) }
     ensures within { IfOk result (λ r. IfSome r (λ n. n < count_of shapes.new)) }
     ensures shaped { IsShaped (view_module context.now.kernel.now).types shapes.new }
@@ -292,7 +295,7 @@ fn add_index(
         width,
         operand: &index.1,
     };
-    moves.push(move_from(context, shapes, inbounds, at, &index))?;
+    moves.push(move_from(context, shapes, flags, at, &index))?;
     Ok(part_from(shapes, at, &index))
 }
 
@@ -301,7 +304,7 @@ fn add_parts(
     alloc: Global,
     context: &Context,
     shapes: &mut Shapes,
-    inbounds: bool,
+    flags: Flags,
     first: u32,
     indices: &[(IrType, Operand)],
     moves: &mut Seq<Move>,
@@ -309,14 +312,14 @@ fn add_parts(
     requires small { IsSmall context.now.kernel.now }
     requires shaped { IsShaped (view_module context.now.kernel.now).types shapes.old }
     requires within { first < count_of shapes.old }
-    ensures moves { OnOk result (moves.new ≡ moves.old ++ definition.part_moves (view_module context.now.kernel.now) (function_in context.now.scope.now) inbounds (Some (type_in shapes.old first)) (view_indices indices.now)) }
+    ensures moves { OnOk result (moves.new ≡ moves.old ++ definition.part_moves (view_module context.now.kernel.now) (function_in context.now.scope.now) flags (Some (type_in shapes.old first)) (view_indices indices.now)) }
     ensures shaped { IsShaped (view_module context.now.kernel.now).types shapes.new }
     ensures longer { count_of shapes.old ≤ count_of shapes.new }
     ensures keeps { (k : ℕ) → k < count_of shapes.old → type_in shapes.new k ≡ type_in shapes.old k }
 {
     let mut at = Some(first);
     'each: for index in indices {
-        at = add_index(alloc, context, shapes, inbounds, at, index, moves)?;
+        at = add_index(alloc, context, shapes, flags, at, index, moves)?;
     }
     Ok(())
 }
@@ -326,7 +329,7 @@ fn add_first(
     alloc: Global,
     context: &Context,
     shapes: &mut Shapes,
-    inbounds: bool,
+    flags: Flags,
     over: u32,
     index: &(IrType, Operand),
     moves: &mut Seq<Move>,
@@ -334,7 +337,7 @@ fn add_first(
     requires small { IsSmall context.now.kernel.now }
     requires shaped { IsShaped (view_module context.now.kernel.now).types shapes.old }
     requires within { over < count_of shapes.old }
-    ensures moves { OnOk result (moves.new ≡ moves.old ++ definition.index_move (view_module context.now.kernel.now) (function_in context.now.scope.now) inbounds (cut (size_of (type_in shapes.old over))) (definition.width_in (view_module context.now.kernel.now) (view_type index.now.0)) (view_operand index.now.1) ∷ []) }
+    ensures moves { OnOk result (moves.new ≡ moves.old ++ definition.index_move (view_module context.now.kernel.now) (function_in context.now.scope.now) flags (cut (size_of (type_in shapes.old over))) (definition.width_in (view_module context.now.kernel.now) (view_type index.now.0)) (view_operand index.now.1) ∷ []) }
     ensures shaped { IsShaped (view_module context.now.kernel.now).types shapes.new }
     ensures longer { count_of shapes.old ≤ count_of shapes.new }
     ensures keeps { (k : ℕ) → k < count_of shapes.old → type_in shapes.new k ≡ type_in shapes.old k }
@@ -345,7 +348,7 @@ fn add_first(
         width,
         operand: &index.1,
     };
-    moves.push(index_move(context, inbounds, each, &index))?;
+    moves.push(index_move(context, flags, each, &index))?;
     Ok(())
 }
 
@@ -355,7 +358,7 @@ fn add_moves(
     alloc: Global,
     context: &Context,
     shapes: &mut Shapes,
-    inbounds: bool,
+    flags: Flags,
     over: u32,
     indices: &IndexList,
     moves: &mut Seq<Move>,
@@ -363,17 +366,19 @@ fn add_moves(
     requires small { IsSmall context.now.kernel.now }
     requires shaped { IsShaped (view_module context.now.kernel.now).types shapes.old }
     requires within { over < count_of shapes.old }
-    ensures moves { OnOk result (moves.new ≡ moves.old ++ definition.moves_of (view_module context.now.kernel.now) (function_in context.now.scope.now) inbounds (type_in shapes.old over) (view_index_list indices.now)) }
+    ensures moves { OnOk result (moves.new ≡ moves.old ++ definition.moves_of (view_module context.now.kernel.now) (function_in context.now.scope.now) flags (type_in shapes.old over) (view_index_list indices.now)) }
     ensures shaped { IsShaped (view_module context.now.kernel.now).types shapes.new }
     ensures longer { count_of shapes.old ≤ count_of shapes.new }
     ensures keeps { (k : ℕ) → k < count_of shapes.old → type_in shapes.new k ≡ type_in shapes.old k }
 {
-    moves.push(Move::Begin { inbounds })?;
+    moves.push(Move::Begin {
+        inbounds: flags.inbounds,
+    })?;
     match indices.items.as_slice() {
         [] => Ok(()),
         [index, rest @ ..] => {
-            add_first(alloc, context, shapes, inbounds, over, index, moves)?;
-            add_parts(alloc, context, shapes, inbounds, over, rest, moves)?;
+            add_first(alloc, context, shapes, flags, over, index, moves)?;
+            add_parts(alloc, context, shapes, flags, over, rest, moves)?;
             Ok(())
         }
     }
@@ -428,12 +433,11 @@ pub fn form_input(
 {
     let Input { base, mut moves } = input_of(alloc, context, shapes, None, &gep.base)?;
     let over = shapes.number(alloc, &context.kernel.types, &gep.base_type)?;
-    let inbounds = gep.flags.inbounds;
     add_moves(
         alloc,
         context,
         shapes,
-        inbounds,
+        gep.flags,
         over,
         &gep.indices,
         &mut moves,

@@ -1,12 +1,12 @@
 -- What the rows of the productions give: a comparison of integers has a width, and a phi an arm.
-use Rattle.std.proofs.Common.{◌≡◌, ◌<◌, ◌++◌, ℕ, zero, suc, Bool, true, false, not, ◌&&◌, nat_lt, nat_le, codes, if◌then◌else◌, Option, Some, None, List, [], ◌∷◌, length, slice_index_or, refl, sym, ap, subst, ◌∙◌, arith}
+use Rattle.std.proofs.Common.{◌≡◌, ◌<◌, ◌++◌, ℕ, zero, suc, Bool, true, false, not, ◌&&◌, ◌||◌, nat_lt, nat_le, codes, if◌then◌else◌, Option, Some, None, List, [], ◌∷◌, length, slice_index_or, refl, sym, ap, subst, ◌∙◌, arith}
 use Rattle.std.proofs.lemmas.List.{append-nil}
-use Rattle.ir_ast.specs.Plain.{Ty, nothing, integer, pointer, array, structure, packed, named, opaque, Val}
-use Rattle.ir_ast.specs.Program.{Act, binary, compare, convert, slot, extract, InstrView}
+use Rattle.ir_ast.specs.Plain.{Ty, nothing, integer, pointer, array, structure, packed, named, opaque, Val, form}
+use Rattle.ir_ast.specs.Program.{Act, binary, compare, convert, slot, offset, extract, InstrView}
 use Rattle.ir_ast.specs.declared.instr.BinaryKind.TheVariants.{Add, Sub, Mul, Shl, Udiv, Sdiv, Lshr, Ashr, Urem, Srem, And, Xor}
 use Rattle.ir_ast.specs.declared.instr.ConvertKind.TheVariants.{Trunc, Zext, Sext}
 use Rattle.ir_lex.specs.Tok.{Tok, word}
-use Rattle.ir_lex.specs.ValueSpelling.{no_flags}
+use Rattle.ir_lex.specs.ValueSpelling.{no_flags, offset_flags, is_bounded}
 use Rattle.ir_lex.specs.Parts.{AllGot, SpellsPair, SpellsArms}
 use Rattle.ir_lex.specs.Rows as rows
 use Rattle.ir_lex.specs.Rows.{Row, does, SpellsSetting, SpellsRow, SpellsInstr, where_holds}
@@ -63,7 +63,7 @@ pair_width opaque a b result setting ts s pair = refl
 comparing : (text : List ℕ) → IsGood (text, rows.comparing)
 comparing text result act ts (setting, rest, got, s, spelled, built, parts) =
     subst (λ o. fits o ≡ true) built
-    (tested (rows.is_scalar got.1.0.0 && not (rows.is_pointer_type got.1.0.0 && rows.is_signed got.0)) (compare got.0 got.1.0.0 got.1.0.1 got.1.0.2) (pair_width got.1.0.0 got.1.0.1 got.1.0.2 result setting _ s spelled.3.2))
+    (tested (rows.is_scalar got.1.1.0.0 && not (rows.is_pointer_type got.1.1.0.0 && (got.0 || rows.is_signed got.1.0))) (compare got.0 got.1.0 got.1.1.0.0 got.1.1.0.1 got.1.1.0.2) (pair_width got.1.1.0.0 got.1.1.0.1 got.1.1.0.2 result setting _ s spelled.3.3.2))
 
 -- ---- phis
 
@@ -86,7 +86,7 @@ good_at (y ∷ xs) zero x each below is = subst IsGood is each.0
 good_at (y ∷ xs) (suc i) x each below is = good_at xs i x each.1 (omega (arith, below)) is
 
 each_good : EachGood rows.rows
-each_good = (plain (codes "add") (rows.wrapping Add) (λ got. refl), (plain (codes "sub") (rows.wrapping Sub) (λ got. refl), (plain (codes "mul") (rows.wrapping Mul) (λ got. refl), (plain (codes "shl") (rows.wrapping Shl) (λ got. refl), (plain (codes "udiv") (rows.exacting Udiv) (λ got. refl), (plain (codes "sdiv") (rows.exacting Sdiv) (λ got. refl), (plain (codes "lshr") (rows.exacting Lshr) (λ got. refl), (plain (codes "ashr") (rows.exacting Ashr) (λ got. refl), (plain (codes "urem") (rows.simple Urem) (λ got. refl), (plain (codes "srem") (rows.simple Srem) (λ got. refl), (plain (codes "and") (rows.simple And) (λ got. refl), (plain (codes "xor") (rows.simple Xor) (λ got. refl), (plain (codes "or") rows.disjoining (λ got. refl), (comparing (codes "icmp"), (plain (codes "select") rows.selecting (λ got. refl), (plain (codes "trunc") rows.truncating (λ got. tested (nat_lt got.1.1.0 got.0.0) (convert Trunc no_flags got.0.0 got.1.1.0 got.0.1) refl), (plain (codes "zext") rows.zero_extending (λ got. tested (nat_lt got.1.0.0 got.1.1.1.0) (convert Zext (record no_flags { nneg = got.0 }) got.1.0.0 got.1.1.1.0 got.1.0.1) refl), (plain (codes "sext") rows.sign_extending (λ got. tested (nat_lt got.0.0 got.1.1.0) (convert Sext no_flags got.0.0 got.1.1.0 got.0.1) refl), (plain (codes "freeze") rows.freezing (λ got. refl), (joining (codes "phi"), (plain (codes "alloca") rows.reserving (λ got. tested (rows.is_scalar got.0) (slot got.0 got.1.0) refl), (plain (codes "load") rows.loading (λ got. refl), (plain (codes "store") rows.storing (λ got. refl), (plain (codes "getelementptr") rows.addressing (λ got. refl), (plain (codes "call") rows.calling (λ got. refl), (plain (codes "extractvalue") rows.extracting (λ got. tested (nat_le got.1.1.1.1.1.1.1.0 1) (extract got.1.0 got.1.1.1.1.1.0 got.1.1.1.1.1.1.1.0) refl), (plain (codes "br") rows.going (λ got. refl), (plain (codes "br") rows.branching (λ got. refl), (plain (codes "switch") rows.switching (λ got. refl), (plain (codes "ret") rows.returning_nothing (λ got. refl), (plain (codes "ret") rows.returning (λ got. refl), (plain (codes "unreachable") rows.unreached (λ got. refl), tt))))))))))))))))))))))))))))))))
+each_good = (plain (codes "add") (rows.wrapping Add) (λ got. refl), (plain (codes "sub") (rows.wrapping Sub) (λ got. refl), (plain (codes "mul") (rows.wrapping Mul) (λ got. refl), (plain (codes "shl") (rows.wrapping Shl) (λ got. refl), (plain (codes "udiv") (rows.exacting Udiv) (λ got. refl), (plain (codes "sdiv") (rows.exacting Sdiv) (λ got. refl), (plain (codes "lshr") (rows.exacting Lshr) (λ got. refl), (plain (codes "ashr") (rows.exacting Ashr) (λ got. refl), (plain (codes "urem") (rows.simple Urem) (λ got. refl), (plain (codes "srem") (rows.simple Srem) (λ got. refl), (plain (codes "and") (rows.simple And) (λ got. refl), (plain (codes "xor") (rows.simple Xor) (λ got. refl), (plain (codes "or") rows.disjoining (λ got. refl), (comparing (codes "icmp"), (plain (codes "select") rows.selecting (λ got. refl), (plain (codes "trunc") rows.truncating (λ got. tested (nat_lt got.1.1.1.1.0 got.1.1.0.0) (convert Trunc (record no_flags { nuw = got.0; nsw = got.1.0 }) got.1.1.0.0 got.1.1.1.1.0 got.1.1.0.1) refl), (plain (codes "zext") rows.zero_extending (λ got. tested (nat_lt got.1.0.0 got.1.1.1.0) (convert Zext (record no_flags { nneg = got.0 }) got.1.0.0 got.1.1.1.0 got.1.0.1) refl), (plain (codes "sext") rows.sign_extending (λ got. tested (nat_lt got.0.0 got.1.1.0) (convert Sext no_flags got.0.0 got.1.1.0 got.0.1) refl), (plain (codes "freeze") rows.freezing (λ got. refl), (joining (codes "phi"), (plain (codes "alloca") rows.reserving (λ got. tested (rows.is_scalar got.0) (slot got.0 got.1.0) refl), (plain (codes "load") rows.loading (λ got. refl), (plain (codes "store") rows.storing (λ got. refl), (plain (codes "getelementptr") rows.addressing (λ got. tested (is_bounded got.0 got.1.0) (offset (form (offset_flags got.0 got.1.0) got.1.1.0 got.1.1.1.1.0 got.1.1.1.1.1.0)) refl), (plain (codes "call") rows.calling (λ got. refl), (plain (codes "extractvalue") rows.extracting (λ got. tested (nat_le got.1.1.1.1.1.1.1.0 1) (extract got.1.0 got.1.1.1.1.1.0 got.1.1.1.1.1.1.1.0) refl), (plain (codes "br") rows.going (λ got. refl), (plain (codes "br") rows.branching (λ got. refl), (plain (codes "switch") rows.switching (λ got. refl), (plain (codes "ret") rows.returning_nothing (λ got. refl), (plain (codes "ret") rows.returning (λ got. refl), (plain (codes "unreachable") rows.unreached (λ got. refl), tt))))))))))))))))))))))))))))))))
 
 -- what a text spells is spelled
 pub instr_is : (result : Option (List ℕ)) (act : Act) (ts : List Tok) → SpellsInstr result act ts → is_spelled act ≡ true

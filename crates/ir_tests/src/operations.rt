@@ -63,11 +63,13 @@ fn add_arithmetic(told: &mut String, op: &Op) -> Result<(), AllocError> {
             add_value(told, b)
         }
         Op::Compare {
+            samesign,
             predicate,
             over,
             a,
             b,
         } => {
+            told.push_str(if *samesign { " samesign" } else { "" })?;
             write!(told, " {predicate:?}")?;
             add_typed(told, over, a)?;
             add_value(told, b)

@@ -5,7 +5,8 @@ use Rattle.std.proofs.lemmas.List.{at_drop_more}
 use Rattle.ir_lex.specs.Lexeme.{lexeme}
 use Rattle.ir_lex.specs.Tok.{tok}
 use Rattle.ir_lex.specs.Cut.{open_after, is_none_open}
-use Rattle.ir_lex.specs.Items.{bracket_of, closes}
+use Rattle.ir_lex.specs.Cut.{closes}
+use Rattle.ir_lex.specs.Items.{bracket_of}
 use Rattle.ir_lex.specs.declared.token.Token.{Token}
 use Rattle.ir_part.specs.Reader.{seen}
 use Rattle.ir_part.specs.Fronts.{is_this_mark}

@@ -5,7 +5,7 @@ use Rattle.std.proofs.lemmas.Bool.{eqb-true}
 use Rattle.ir_ast.specs.Plain.{Ty, opaque, Ini}
 use Rattle.ir_lex.specs.Bytes.{begins_with}
 use Rattle.ir_lex.specs.Lexeme.{Lexeme}
-use Rattle.ir_lex.specs.Cut.{open_after, is_none_open}
+use Rattle.ir_lex.specs.Cut.{open_after, is_none_open, closes}
 use Rattle.ir_lex.specs.Drop.{remaining}
 use Rattle.ir_lex.specs.Names.{plain_name}
 use Rattle.ir_lex.specs.Decimal.{width_of}
@@ -13,7 +13,7 @@ use Rattle.ir_lex.specs.Tok.{Tok, toks, word, mark, IsLocal, IsGlobal}
 use Rattle.ir_lex.specs.TypeSpelling.{SpellsType, SpellsResult}
 use Rattle.ir_lex.specs.ValueSpelling.{SpellsInit}
 use Rattle.ir_lex.specs.Parts.{SpellsAlign}
-use Rattle.ir_lex.specs.Items.{Top, layout_item, type_item, global_item, define_item, declare_item, IsText, IsAligned, storage_word, bracket_of, closes, are_balanced, SpellsTop, ReadsTop}
+use Rattle.ir_lex.specs.Items.{Top, layout_item, type_item, global_item, define_item, declare_item, IsText, IsAligned, storage_word, bracket_of, are_balanced, SpellsTop, ReadsTop}
 use Rattle.ir_lex.specs.declared.token.TokenKind.TheVariants.{Word, Number, Quoted, Local, Global, Metadata, Attribute, Mark}
 use Rattle.ir_part.specs.Reader.{Reader, ◌>>=◌, Takes, IsSound, IsComplete}
 use Rattle.ir_part.specs.Fronts.{after_word, is_this_mark, local_at, global_at}

@@ -2,11 +2,11 @@
 use Rattle.std.specs.Prelude.{ℕ, ◌==◌, Bool, true, false, ◌&&◌, if◌then◌else◌, ℤ, Option, Some, None, List, [], ◌∷◌, drop, codes}
 use Rattle.ir_ast.specs.Plain.{Ty, opaque}
 use Rattle.ir_lex.specs.Bytes.{begins_with}
-use Rattle.ir_lex.specs.Cut.{open_after, is_none_open}
+use Rattle.ir_lex.specs.Cut.{open_after, is_none_open, closes}
 use Rattle.ir_lex.specs.Drop.{are_digits}
 use Rattle.ir_lex.specs.Names.{plain_name}
 use Rattle.ir_lex.specs.Tok.{Tok}
-use Rattle.ir_lex.specs.Items.{Top, layout_item, type_item, global_item, define_item, declare_item, bracket_of, closes}
+use Rattle.ir_lex.specs.Items.{Top, layout_item, type_item, global_item, define_item, declare_item, bracket_of}
 use Rattle.ir_lex.specs.declared.token.TokenKind.{TokenKind}
 use Rattle.ir_lex.specs.declared.token.TokenKind.TheVariants.{Word, Quoted, Local, Global, Metadata}
 use Rattle.ir_part.specs.Reader.{Reader, ◌>>=◌}

@@ -4,7 +4,6 @@ ghost use Rattle.std.specs.Prelude.{◌≡◌, ◌&&◌, [], OnOk, IfOk};
 ghost use Rattle.ir_lex.specs.Lexeme.{lexeme};
 ghost use Rattle.ir_lex.specs.Tok.{tok};
 ghost use Rattle.ir_lex.specs.Cut as cut;
-ghost use Rattle.ir_lex.specs.Items as items;
 ghost use Rattle.ir_lex.specs.Marks as marks;
 ghost use Rattle.ir_lex.specs.Items.{bracket_of};
 ghost use Rattle.ir_part.specs.Reader.{seen};
@@ -56,7 +55,7 @@ impl Brackets {
 
     /// Whether a token closes the innermost bracket, where it closes one.
     fn takes(&self, token: &Token<'_>) -> bool
-        ensures { result ≡ items.closes self.now (bracket_of (tok (lexeme token.now))) }
+        ensures { result ≡ cut.closes self.now (bracket_of (tok (lexeme token.now))) }
     {
         match self.closers.last() {
             Some(innermost) => !is_closing(token) || is_mark(*innermost, token),
@@ -105,7 +104,7 @@ fn closer(token: &Token<'_>) -> Option<u8>
 
 /// Whether a token is a closing mark.
 fn is_closing(token: &Token<'_>) -> bool
-    ensures { result ≡ items.is_closing (bracket_of (tok (lexeme token.now))) }
+    ensures { result ≡ cut.is_closing (bracket_of (tok (lexeme token.now))) }
 {
     is_mark(b')', token) || is_mark(b']', token) || is_mark(b'}', token)
 }

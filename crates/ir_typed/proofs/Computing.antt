@@ -125,10 +125,10 @@ module _ (m : ModuleView) (f : FunctionView) (P : Program) (c : Machine) (s : St
     pub by : act_on P c s a ≡ after s c (comes a)
     pub some : is_pass (comes a) ≡ false
 
-  compared : (p : Predicate) (o : Option ℕ) (pointers : Bool) (a b : Val) → IsComputed (compare_by m f p o pointers a b)
-  compared p (Some w) pointers a b = record { by = refl; some = two_give _ (value_of c.memory c.top.registers (input_of m f (Some w) a)) (value_of c.memory c.top.registers (input_of m f (Some w) b)) }
-  compared p None true a b = record { by = refl; some = two_give _ (value_of c.memory c.top.registers (input_of m f None a)) (value_of c.memory c.top.registers (input_of m f None b)) }
-  compared p None false a b = record { by = refl; some = refl }
+  compared : (samesign : Bool) (p : Predicate) (o : Option ℕ) (pointers : Bool) (a b : Val) → IsComputed (compare_by m f samesign p o pointers a b)
+  compared samesign p (Some w) pointers a b = record { by = refl; some = two_give _ (value_of c.memory c.top.registers (input_of m f (Some w) a)) (value_of c.memory c.top.registers (input_of m f (Some w) b)) }
+  compared samesign p None true a b = record { by = refl; some = two_give _ (value_of c.memory c.top.registers (input_of m f None a)) (value_of c.memory c.top.registers (input_of m f None b)) }
+  compared samesign p None false a b = record { by = refl; some = refl }
 
   load_computed : (t : Ty) (target : Val) (align : ℕ) (spans : Option (List Span)) (o : Option ℕ) → IsComputed (load_by m f t target align spans o)
   load_computed t target align spans (Some k) = record { by = refl; some = slot_gives (number_width t) (written_or align t) spans (held_at c.top.registers k) }
@@ -140,7 +140,7 @@ module _ (m : ModuleView) (f : FunctionView) (P : Program) (c : Machine) (s : St
 
   pub simple_computed : (a : Act) → is_simple a ≡ true → IsComputed (act_of m f a)
   simple_computed (plain.binary kind flags w a b) e = record { by = refl; some = two_give _ (value_of c.memory c.top.registers (input_of m f (Some w) a)) (value_of c.memory c.top.registers (input_of m f (Some w) b)) }
-  simple_computed (plain.compare p over a b) e = compared p (width_in m over) (is_pointer (meant m.types over)) a b
+  simple_computed (plain.compare samesign p over a b) e = compared samesign p (width_in m over) (is_pointer (meant m.types over)) a b
   simple_computed (plain.select v over a b) e = record { by = refl; some = three_give (λ x y z. select x y z) (value_of c.memory c.top.registers (input_of m f (Some 1) v)) (value_of c.memory c.top.registers (typed m f over a)) (value_of c.memory c.top.registers (typed m f over b)) }
   simple_computed (plain.convert kind flags from to a) e = record { by = refl; some = one_gives _ (value_of c.memory c.top.registers (input_of m f (Some from) a)) }
   simple_computed (plain.freeze over a) e = record { by = refl; some = one_gives (λ x. freeze x) (value_of c.memory c.top.registers (typed m f over a)) }
@@ -223,10 +223,10 @@ only_one : {A : Type 0} (x : A) (P : A → Type 0) → P x → (z : A) → Conta
 only_one x P p z (zero, l, e) = subst P e p
 only_one x P p z (suc k, l, e) = absurd (omega (arith, l))
 
-compared_widths : (types : Types) (p : Predicate) (over : Ty) (a b : Val) → keeps_notes (plain.compare p over a b) ≡ true → is_spelled (plain.compare p over a b) ≡ true → (w : ℕ) → meant types over ≡ integer w → is_width w ≡ true
-compared_widths types p (integer v) a b n h w e = same_width v w e h
-compared_widths types p pointer a b n h w e = absurd cc
-compared_widths types p over a b n h w e = absurd cc
+compared_widths : (types : Types) (samesign : Bool) (p : Predicate) (over : Ty) (a b : Val) → keeps_notes (plain.compare samesign p over a b) ≡ true → is_spelled (plain.compare samesign p over a b) ≡ true → (w : ℕ) → meant types over ≡ integer w → is_width w ≡ true
+compared_widths types samesign p (integer v) a b n h w e = same_width v w e h
+compared_widths types samesign p pointer a b n h w e = absurd cc
+compared_widths types samesign p over a b n h w e = absurd cc
 
 abbrev HasWidths : Types → Act → Type 0
 HasWidths types a = (t : Ty) (w : ℕ) → Contains (map (λ (p : Ty × Val). p.0) (operands a)) t → meant types t ≡ integer w → is_width w ≡ true
@@ -234,8 +234,8 @@ HasWidths types a = (t : Ty) (w : ℕ) → Contains (map (λ (p : Ty × Val). p.
 widths_there : (types : Types) (a : Act) → is_computation a ≡ true → is_chosen a ≡ false → keeps_notes a ≡ true → is_spelled a ≡ true → HasWidths types a
 widths_there types (plain.binary kind flags v a b) s n k h t w c e =
     one_of (integer v) (integer v) (λ t. meant types t ≡ integer w → is_width w ≡ true) (λ e. same_width v w e k) (λ e. same_width v w e k) t c e
-widths_there types (plain.compare p over a b) s n k h t w c e =
-    one_of over over (λ t. meant types t ≡ integer w → is_width w ≡ true) (compared_widths types p over a b k h w) (compared_widths types p over a b k h w) t c e
+widths_there types (plain.compare samesign p over a b) s n k h t w c e =
+    one_of over over (λ t. meant types t ≡ integer w → is_width w ≡ true) (compared_widths types samesign p over a b k h w) (compared_widths types samesign p over a b k h w) t c e
 widths_there types (plain.convert kind flags from to a) s n k h t w c e =
     let both = left_of (shape.is_width from && shape.is_width to) (shape.is_narrower kind from to) k in
     only_one (integer from) (λ t. meant types t ≡ integer w → is_width w ≡ true) (λ e. same_width from w e (left_of (shape.is_width from) (shape.is_width to) both)) t c e

@@ -40,10 +40,10 @@ abbrev IsBody : code.Act → Type 0
 IsBody a = (memory : Memory) (rs : Registers) (from : ℕ) (r : Option ℕ) → head_of memory rs from r a ≡ head.Ends
 
 module _ (m : ModuleView) (f : FunctionView) where
-  compare_ends : (p : Predicate) (w : Option ℕ) (pointers : Bool) (a b : Val) → IsBody (compare_by m f p w pointers a b)
-  compare_ends p (Some w) pointers a b = λ memory rs from r. refl
-  compare_ends p None true a b = λ memory rs from r. refl
-  compare_ends p None false a b = λ memory rs from r. refl
+  compare_ends : (samesign : Bool) (p : Predicate) (w : Option ℕ) (pointers : Bool) (a b : Val) → IsBody (compare_by m f samesign p w pointers a b)
+  compare_ends samesign p (Some w) pointers a b = λ memory rs from r. refl
+  compare_ends samesign p None true a b = λ memory rs from r. refl
+  compare_ends samesign p None false a b = λ memory rs from r. refl
 
   load_ends : (t : Ty) (target : Val) (align : ℕ) (spans : Option (List Span)) (slot : Option ℕ) → IsBody (load_by m f t target align spans slot)
   load_ends t target align spans None = λ memory rs from r. refl
@@ -89,7 +89,7 @@ module _ (m : ModuleView) (f : FunctionView) where
 
   plain_ends : (a : Act) → is_phi a ≡ false → IsBody (act_of m f a)
   plain_ends (plain.phi over arms) e = absurd cc
-  plain_ends (plain.compare p over a b) e = compare_ends p (width_in m over) (is_pointer (meant m.types over)) a b
+  plain_ends (plain.compare samesign p over a b) e = compare_ends samesign p (width_in m over) (is_pointer (meant m.types over)) a b
   plain_ends (plain.load over target align range) e = load_ends (meant m.types over) target align (spans_of m (number_width (meant m.types over)) range) (slot_place f target)
   plain_ends (plain.store over v target align) e = store_ends (meant m.types over) v target align (slot_place f target)
   plain_ends (plain.call over name arguments) e = call_ends name arguments (body_place m name) (is_some (intrinsic_of name))

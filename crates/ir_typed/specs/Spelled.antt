@@ -17,7 +17,7 @@ is_some_arm (a ∷ arms) = true
 
 -- integers that are compared have a width from 1 to 64, and a phi has an arm
 abbrev pub is_spelled : Act → Bool
-is_spelled (compare predicate over a b) = has_width over
+is_spelled (compare samesign predicate over a b) = has_width over
 is_spelled (phi over arms) = is_some_arm arms
 is_spelled _ = true
 

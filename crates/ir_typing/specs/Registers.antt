@@ -20,7 +20,7 @@ overflows (Some i) = i.overflow
 -- what the register holds that an instruction sets
 abbrev pub kind_of : Act → Option Kind
 kind_of (binary kind flags w a b) = Some (value_of (integer w))
-kind_of (compare predicate over a b) = Some (value_of (integer 1))
+kind_of (compare samesign predicate over a b) = Some (value_of (integer 1))
 kind_of (select condition over a b) = Some (value_of over)
 kind_of (convert kind flags from to a) = Some (value_of (integer to))
 kind_of (freeze over a) = Some (value_of over)

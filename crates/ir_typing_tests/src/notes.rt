@@ -69,10 +69,11 @@ pub fn keeps_notes(op: &Op) -> bool
     match op {
         Op::Binary { width, .. } => is_width(*width),
         Op::Compare {
+            samesign,
             predicate,
             over,
             ..
-        } => is_scalar(over) && !(is_pointer(over) && is_signed(*predicate)),
+        } => is_scalar(over) && !(is_pointer(over) && (*samesign || is_signed(*predicate))),
         Op::Convert { kind, from, to, .. } => {
             is_width(*from) && is_width(*to) && is_narrower(*kind, *from, *to)
         }

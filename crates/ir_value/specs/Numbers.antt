@@ -134,35 +134,48 @@ holds Sge w a b = not (bvslt w a b)
 holds Slt w a b = bvslt w a b
 holds Sle w a b = not (bvslt w b a)
 
-abbrev pub compare_of : Predicate → ℕ → Value → Value → Made
-compare_of p w (Number a) (Number b) = Gives (Number (truth (holds p w a b)))
-compare_of p w (Number a) Poison = Gives Poison
-compare_of p w Poison (Number b) = Gives Poison
-compare_of p w Poison Poison = Gives Poison
-compare_of p w _ _ = Lost
+-- one of the two is negative
+abbrev pub signs_differ : ℕ → ℕ → ℕ → Bool
+signs_differ w a b = if bvslt w a 0 then not (bvslt w b 0) else bvslt w b 0
 
-abbrev pub compare_numbers : Predicate → ℕ → Value → Value → Made
-compare_numbers p w a b = if is_width w && (takes w a && takes w b) then compare_of p w a b else Lost
+-- with `samesign` poison where the signs differ
+abbrev pub compare_of : Bool → Predicate → ℕ → Value → Value → Made
+compare_of samesign p w (Number a) (Number b) = unless (samesign && signs_differ w a b) (truth (holds p w a b))
+compare_of samesign p w (Number a) Poison = Gives Poison
+compare_of samesign p w Poison (Number b) = Gives Poison
+compare_of samesign p w Poison Poison = Gives Poison
+compare_of samesign p w _ _ = Lost
+
+abbrev pub compare_numbers : Bool → Predicate → ℕ → Value → Value → Made
+compare_numbers samesign p w a b = if is_width w && (takes w a && takes w b) then compare_of samesign p w a b else Lost
 
 -- ---- changes of width
 
-abbrev pub convert_number : Bool → ConvertKind → ℕ → ℕ → ℕ → Made
-convert_number nneg Trunc from to n = Gives (Number (n % 2 ^ to))
-convert_number nneg Zext from to n = unless (nneg && bvslt from n 0) n
-convert_number nneg Sext from to n = Gives (Number (sign_extend from to n))
+-- with zeros before the low bits, the number is another one: a dropped bit is one
+abbrev pub drops_one : ℕ → ℕ → Bool
+drops_one to n = not (n % 2 ^ to == n)
 
-abbrev pub convert_of : Bool → ConvertKind → ℕ → ℕ → Value → Made
-convert_of nneg kind from to (Number n) = convert_number nneg kind from to n
-convert_of nneg kind from to Poison = Gives Poison
-convert_of nneg kind from to _ = Lost
+-- with copies of their sign before the low bits, the number is another one: a dropped bit differs from the result's sign bit
+abbrev pub drops_sign : ℕ → ℕ → ℕ → Bool
+drops_sign from to n = not (sign_extend to from (n % 2 ^ to) == n)
+
+abbrev pub convert_number : Flags → ConvertKind → ℕ → ℕ → ℕ → Made
+convert_number f Trunc from to n = unless ((f.nuw && drops_one to n) || (f.nsw && drops_sign from to n)) (n % 2 ^ to)
+convert_number f Zext from to n = unless (f.nneg && bvslt from n 0) n
+convert_number f Sext from to n = Gives (Number (sign_extend from to n))
+
+abbrev pub convert_of : Flags → ConvertKind → ℕ → ℕ → Value → Made
+convert_of f kind from to (Number n) = convert_number f kind from to n
+convert_of f kind from to Poison = Gives Poison
+convert_of f kind from to _ = Lost
 
 abbrev pub is_narrower : ConvertKind → ℕ → ℕ → Bool
 is_narrower Trunc from to = nat_lt to from
 is_narrower _ from to = nat_lt from to
 
-abbrev pub convert : Bool → ConvertKind → ℕ → ℕ → Value → Made
-convert nneg kind from to a =
-    if (is_width from && is_width to) && (is_narrower kind from to && takes from a) then convert_of nneg kind from to a else Lost
+abbrev pub convert : Flags → ConvertKind → ℕ → ℕ → Value → Made
+convert f kind from to a =
+    if (is_width from && is_width to) && (is_narrower kind from to && takes from a) then convert_of f kind from to a else Lost
 
 -- ---- ranges
 

@@ -1,6 +1,6 @@
 -- Addresses: how they compare, what is added to them, and where they reach.
-use Rattle.std.specs.Prelude.{ℕ, ◌+◌, ◌%◌, ◌^◌, ℤ, pos, ◌+ℤ◌, ◌*ℤ◌, int_le, Bool, true, false, not, ◌&&◌, ◌||◌, ◌==◌, if◌then◌else◌, nat_le, nat_eq}
-use Rattle.hk_num.specs.Numbers.{signed_of, number_of}
+use Rattle.std.specs.Prelude.{ℕ, ◌+◌, ◌*◌, ◌%◌, ◌^◌, ℤ, pos, ◌+ℤ◌, ◌*ℤ◌, int_le, Bool, true, false, not, ◌&&◌, ◌||◌, ◌==◌, if◌then◌else◌, nat_le, nat_eq}
+use Rattle.hk_num.specs.Numbers.{signed_of, number_of, sign_extend, bvslt}
 use Rattle.ir_ast.specs.declared.instr.Predicate.{Predicate}
 use Rattle.ir_ast.specs.declared.instr.Predicate.TheVariants.{Eq, Ne}
 use Rattle.ir_value.specs.declared.value.Value.{Value}
@@ -78,9 +78,27 @@ abbrev pub begin_at : Bool → ℕ → Value → Value
 begin_at inbounds size v = move_by inbounds size (pos 0) v
 
 -- an index of a type that has a size up to 2^32; a poison index makes all poison
-abbrev pub step_of : Bool → ℕ → ℕ → ℕ → Value → Value → Value
-step_of inbounds size w each (Number n) v = if is_width w && is_number w n then move_by inbounds size (added_by w n each) v else Poison
-step_of inbounds size w each _ v = Poison
+abbrev pub signed_step : Bool → ℕ → ℕ → ℕ → Value → Value → Value
+signed_step inbounds size w each (Number n) v = if is_width w && is_number w n then move_by inbounds size (added_by w n each) v else Poison
+signed_step inbounds size w each _ v = Poison
+
+-- the bytes that an index steps over, extended by its sign to 64 bits and read unsigned
+abbrev pub unsigned_by : ℕ → ℕ → ℕ → ℕ
+unsigned_by w n each = sign_extend w 64 n * each
+
+-- read so, they or the sum with the offset are 2^64 or more
+abbrev pub wraps : ℕ → ℕ → Value → Value → Bool
+wraps w each (Number n) (Address o x) = nat_le (2 ^ 64) (unsigned_by w n each) || nat_le (2 ^ 64) (x + unsigned_by w n each)
+wraps w each _ _ = false
+
+-- an index steps back over values that have a size: within an object, that is where it wraps
+abbrev pub steps_back : ℕ → ℕ → Value → Bool
+steps_back w each (Number n) = (is_width w && is_number w n) && (not (each == 0) && bvslt w n 0)
+steps_back w each _ = false
+
+-- with `inbounds nuw` that is poison, too
+abbrev pub step_of : Bool → Bool → ℕ → ℕ → ℕ → Value → Value → Value
+step_of inbounds nuw size w each i v = if (inbounds && nuw) && wraps w each i v then Poison else signed_step inbounds size w each i v
 
 -- ---- where an access reaches
 

@@ -3,7 +3,7 @@
 ghost use Rattle.std.specs.Prelude.{◌≡◌, ◌≤◌, ◌<◌, ◌^◌, true};
 ghost use Rattle.ir_value.specs.Numbers as definition;
 
-use crate::numbers::{is_number, is_width, takes, truth};
+use crate::numbers::{is_number, is_width, takes, truth, unless};
 use crate::value::{Made, Value};
 use hk_num::{slt, sub, ult};
 use ir_ast::Predicate;
@@ -30,16 +30,34 @@ pub(crate) fn holds(predicate: Predicate, w: u32, a: u64, b: u64) -> bool
     }
 }
 
-fn compare_of(predicate: Predicate, w: u32, a: Value, b: Value) -> Made
+/// Whether one of two numbers of a width is negative.
+fn signs_differ(w: u32, a: u64, b: u64) -> bool
+    requires width { 1 ≤ w }
+    requires within { w ≤ 64 }
+    requires first { a < 2 ^ w }
+    requires second { b < 2 ^ w }
+    ensures { result ≡ definition.signs_differ w a b }
+{
+    if slt(w, a, 0) {
+        !slt(w, b, 0)
+    } else {
+        slt(w, b, 0)
+    }
+}
+
+fn compare_of(samesign: bool, predicate: Predicate, w: u32, a: Value, b: Value) -> Made
     requires width { 1 ≤ w }
     requires within { w ≤ 64 }
     requires first { definition.takes w a ≡ true }
     requires second { definition.takes w b ≡ true }
-    ensures { result ≡ definition.compare_of predicate w a b }
+    ensures { result ≡ definition.compare_of samesign predicate w a b }
 {
     match (a, b) {
         (Value::Number(a), Value::Number(b)) => {
-            Made::Gives(Value::Number(truth(holds(predicate, w, a, b))))
+            unless(
+                samesign && signs_differ(w, a, b),
+                truth(holds(predicate, w, a, b)),
+            )
         }
         (Value::Number(_), Value::Poison) => Made::Gives(Value::Poison),
         (Value::Poison, Value::Number(_)) => Made::Gives(Value::Poison),
@@ -48,12 +66,12 @@ fn compare_of(predicate: Predicate, w: u32, a: Value, b: Value) -> Made
     }
 }
 
-/// Compares two numbers of a width. It gives a number of width 1.
-pub fn compare_numbers(predicate: Predicate, w: u32, a: Value, b: Value) -> Made
-    ensures { result ≡ definition.compare_numbers predicate w a b }
+/// Compares two numbers of a width. It gives a number of width 1. With `samesign` it is poison where the signs differ.
+pub fn compare_numbers(samesign: bool, predicate: Predicate, w: u32, a: Value, b: Value) -> Made
+    ensures { result ≡ definition.compare_numbers samesign predicate w a b }
 {
     if is_width(w) && takes(w, a) && takes(w, b) {
-        compare_of(predicate, w, a, b)
+        compare_of(samesign, predicate, w, a, b)
     } else {
         Made::Lost
     }

@@ -1,12 +1,13 @@
 //! What is added to an address.
 
-ghost use Rattle.std.specs.Prelude.{◌≡◌, ◌≤◌, ◌<◌, ◌^◌, ◌-◌, pos, int_le, true};
+ghost use Rattle.std.specs.Prelude.{◌≡◌, ◌≤◌, ◌<◌, ◌^◌, ◌-◌, ◌&&◌, pos, int_le, true};
 ghost use Rattle.ir_value.specs.Numbers as numbers;
 ghost use Rattle.ir_value.specs.Pointers as definition;
 ghost use Rattle.hk_num.specs.Numbers.{number_of, signed_of};
 
 use crate::numbers::{is_number, is_width};
 use crate::value::Value;
+use hk_num::slt;
 
 /// A whole number modulo 2^64.
 fn wrapped(z: i128) -> u64
@@ -102,9 +103,9 @@ fn added_by(w: u32, n: u64, each: u64) -> i128
     i128::from(reading(w, n)) * i128::from(each)
 }
 
-/// The address that an index steps to; size is that of the address's object. A poison index makes poison.
-pub fn step(inbounds: bool, size: u64, w: u32, each: u64, index: Value, value: Value) -> Value
-    ensures { result ≡ definition.step_of inbounds size w each index value }
+/// The address that a signed index steps to; size is that of the address's object. A poison index makes poison.
+fn signed_step(inbounds: bool, size: u64, w: u32, each: u64, index: Value, value: Value) -> Value
+    ensures { result ≡ definition.signed_step inbounds size w each index value }
 {
     match index {
         Value::Number(n) => {
@@ -116,4 +117,41 @@ pub fn step(inbounds: bool, size: u64, w: u32, each: u64, index: Value, value: V
         }
         _ => Value::Poison,
     }
+}
+
+/// Whether an index steps back: it is a negative number of the width, and steps over values that have a size.
+fn steps_back(w: u32, each: u64, index: Value) -> bool
+    ensures { result ≡ definition.steps_back w each index }
+{
+    match index {
+        Value::Number(n) => is_width(w) && is_number(w, n) && each != 0 && slt(w, n, 0),
+        _ => false,
+    }
+}
+
+/// Whether a step back counts: with both flags.
+fn goes_back(inbounds: bool, nuw: bool, back: bool) -> bool
+    ensures { result ≡ ((inbounds && nuw) && back) }
+{
+    inbounds && nuw && back
+}
+
+/// The address that an index steps to; size is that of the address's object. A poison index makes poison. With `inbounds nuw` the bytes
+/// that it steps over, read unsigned, and their sum with the offset are below 2^64, or it is poison; within an object that is so just
+/// where no index steps back.
+#[tactic(auto, using(crate::proofs::Unsigned::by_sign))]
+pub fn step(
+    inbounds: bool,
+    nuw: bool,
+    size: u64,
+    w: u32,
+    each: u64,
+    index: Value,
+    value: Value,
+) -> Value
+    ensures { result ≡ definition.step_of inbounds nuw size w each index value }
+{
+    let back = goes_back(inbounds, nuw, steps_back(w, each, index));
+    let stepped = signed_step(inbounds, size, w, each, index, value);
+    if back { Value::Poison } else { stepped }
 }

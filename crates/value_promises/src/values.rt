@@ -32,6 +32,7 @@ pub fn binary(
 /// A comparison of two numbers gives what the machine's gives.
 pub fn compare_numbers(
     t: &mut Terms,
+    samesign: bool,
     predicate: Predicate,
     w: u32,
     a: SymValue,
@@ -39,9 +40,9 @@ pub fn compare_numbers(
 ) -> Result<SymValue, AllocError>
     requires first { IsSym t.old a }
     requires second { IsSym t.old b }
-    ensures { IfOk result (λ r. (v : Reading) → Answers false (meaning t.new r v) (machine.compare_numbers predicate w (meaning t.old a v) (meaning t.old b v))) }
+    ensures { IfOk result (λ r. (v : Reading) → Answers false (meaning t.new r v) (machine.compare_numbers samesign predicate w (meaning t.old a v) (meaning t.old b v))) }
 {
-    let made = hk_symvalue::compare_numbers(t, predicate, w, a, b)?;
+    let made = hk_symvalue::compare_numbers(t, samesign, predicate, w, a, b)?;
     Ok(made)
 }
 
@@ -67,7 +68,7 @@ pub fn step(
     requires size { IsWord t.old 64 size }
     requires index { IsSym t.old index }
     requires base { IsSym t.old from }
-    ensures { IfOk result (λ r. (v : Reading) → meaning t.new r v ≡ step_of stride.inbounds (value t.old size v) stride.width stride.each (meaning t.old index v) (meaning t.old from v)) }
+    ensures { IfOk result (λ r. (v : Reading) → meaning t.new r v ≡ step_of stride.inbounds stride.nuw (value t.old size v) stride.width stride.each (meaning t.old index v) (meaning t.old from v)) }
 {
     let made = hk_symvalue::step(t, stride, size, index, from)?;
     Ok(made)

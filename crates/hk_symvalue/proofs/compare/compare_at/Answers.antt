@@ -17,5 +17,5 @@ returns-clause-answers c = λ v.
     let wide : width last c.in_ok-x.x ≡ w = search rules in
     let pa : is_true last c.args.a.poison v ≡ is_true old c.args.a.poison v = search rules in
     let pb : is_true last c.args.b.poison v ≡ is_true old c.args.b.poison v = search rules in
-    row_of_two _ _ (compare_of c.args.predicate w) w w _ (value old c.args.a.base v) _ _ _ (value old c.args.b.base v) _ _ first second
-    (moved (λ k p q. Answers false (meaning c.compare_of.new.t c.in_ok-made.made v) (compare_of c.args.predicate k (flagged p (value last c.in_ok-x.x v)) (flagged q (value last c.in_ok-y.y v)))) _ _ _ _ _ _ wide pa pb (c.in_ok-made.ensures.answers v))
+    row_of_two _ _ (compare_of c.args.samesign c.args.predicate w) w w _ (value old c.args.a.base v) _ _ _ (value old c.args.b.base v) _ _ first second
+    (moved (λ k p q. Answers false (meaning c.compare_of.new.t c.in_ok-made.made v) (compare_of c.args.samesign c.args.predicate k (flagged p (value last c.in_ok-x.x v)) (flagged q (value last c.in_ok-y.y v)))) _ _ _ _ _ _ wide pa pb (c.in_ok-made.ensures.answers v))

@@ -1,7 +1,7 @@
-use Rattle.std.proofs.Common.{◌≡◌, ◌||◌, false, rules}
+use Rattle.std.proofs.Common.{◌≡◌, ◌||◌, ◌&&◌, rules}
 use Rattle.hk_term.specs.Shape.{width}
 use Rattle.hk_term.specs.Meaning.{value}
-use Rattle.ir_value.specs.Numbers.{truth, holds}
+use Rattle.ir_value.specs.Numbers.{truth, holds, signs_differ}
 use Rattle.hk_symvalue.specs.Meaning.{is_true, meaning}
 use Rattle.hk_symvalue.specs.Rows.{flagged}
 use Rattle.hk_symvalue.proofs.ValueLaws.{compare_answers}
@@ -17,5 +17,5 @@ returns-clause-answers c = λ v.
     let pb = is_true old c.args.b.poison v in
     let told : is_true c.holds.new.t c.in_ok-bit.bit v ≡ holds c.args.predicate w x y = search rules in
     let bit : value c.holds.new.t c.in_ok-bit.bit v ≡ truth (is_true c.holds.new.t c.in_ok-bit.bit v) = search rules in
-    let shows : meaning c.number_of.new.t c.in_ok-value.value v ≡ flagged ((pa || pb) || false) (value c.holds.new.t c.in_ok-bit.bit v) = search rules in
-    compare_answers c.args.predicate w x y _ _ pa pb _ told bit shows
+    let shows : meaning c.number_of.new.t c.in_ok-value.value v ≡ flagged ((pa || pb) || (c.args.samesign && signs_differ w x y)) (value c.holds.new.t c.in_ok-bit.bit v) = search rules in
+    compare_answers c.args.samesign c.args.predicate w x y _ _ pa pb _ told bit shows

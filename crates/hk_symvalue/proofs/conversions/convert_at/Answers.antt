@@ -15,5 +15,5 @@ returns-clause-answers c = λ v.
     let first : value last c.in_ok-x.x v ≡ value old c.args.a.bits v % 2 ^ w = search rules in
     let wide : width last c.in_ok-x.x ≡ w = search rules in
     let pa : is_true last c.args.a.poison v ≡ is_true old c.args.a.poison v = search rules in
-    row_of_one _ (convert_of c.args.nneg c.args.kind w c.args.to) (is_width w && is_width c.args.to) (is_narrower c.args.kind w c.args.to) w _ (value old c.args.a.base v) _ _ first
-    (moved (λ k p q. Answers false (meaning c.converted.new.t c.in_ok-made.made v) (convert_of c.args.nneg c.args.kind k c.args.to (flagged p (value last c.in_ok-x.x v)))) _ _ _ _ true true wide pa refl (c.in_ok-made.ensures.answers v))
+    row_of_one _ (convert_of c.args.flags c.args.kind w c.args.to) (is_width w && is_width c.args.to) (is_narrower c.args.kind w c.args.to) w _ (value old c.args.a.base v) _ _ first
+    (moved (λ k p q. Answers false (meaning c.converted.new.t c.in_ok-made.made v) (convert_of c.args.flags c.args.kind k c.args.to (flagged p (value last c.in_ok-x.x v)))) _ _ _ _ true true wide pa refl (c.in_ok-made.ensures.answers v))

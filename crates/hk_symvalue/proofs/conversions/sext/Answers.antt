@@ -12,4 +12,4 @@ returns-clause-answers c = λ v.
     let old = c.args.t.now in
     let x = value old c.args.a.bits v in
     let shows : meaning c.number_of.new.t c.in_ok-value.value v ≡ flagged ((is_true old c.args.a.poison v || false) || false) (sign_extend (width old c.args.a.bits) c.args.to x) = search rules in
-    extended c.args.nneg (width old c.args.a.bits) c.args.to x _ _ shows
+    extended c.args.flags (width old c.args.a.bits) c.args.to x _ _ shows

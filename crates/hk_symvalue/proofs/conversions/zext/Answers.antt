@@ -12,5 +12,5 @@ returns-clause-answers c = λ v.
     let old = c.args.t.now in
     let w = width old c.args.a.bits in
     let x = value old c.args.a.bits v in
-    let shows : meaning c.number_of.new.t c.in_ok-value.value v ≡ flagged ((is_true old c.args.a.poison v || (c.args.nneg && bvslt w x 0)) || false) x = search rules in
-    padded c.args.nneg w c.args.to x _ _ shows
+    let shows : meaning c.number_of.new.t c.in_ok-value.value v ≡ flagged ((is_true old c.args.a.poison v || (c.args.flags.nneg && bvslt w x 0)) || false) x = search rules in
+    padded c.args.flags w c.args.to x _ _ shows

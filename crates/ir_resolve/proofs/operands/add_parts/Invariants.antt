@@ -13,6 +13,6 @@ invariant-each l = record {
   within : IfSome l.at (λ n. n < count_of l.shapes);
   longer : count_of l.initial.shapes ≤ count_of l.shapes;
   keeps : (k : ℕ) → k < count_of l.initial.shapes → type_in l.shapes k ≡ type_in l.initial.shapes k;
-  left : l.moves ++ part_moves (view_module l.context.kernel.now) (function_in l.context.scope.now) l.inbounds (option_map (type_in l.shapes) l.at) (view_indices (drop l.index-index l.indices))
-      ≡ l.initial.moves ++ part_moves (view_module l.context.kernel.now) (function_in l.context.scope.now) l.inbounds (Some (type_in l.initial.shapes l.first)) (view_indices l.indices);
+  left : l.moves ++ part_moves (view_module l.context.kernel.now) (function_in l.context.scope.now) l.flags (option_map (type_in l.shapes) l.at) (view_indices (drop l.index-index l.indices))
+      ≡ l.initial.moves ++ part_moves (view_module l.context.kernel.now) (function_in l.context.scope.now) l.flags (Some (type_in l.initial.shapes l.first)) (view_indices l.indices);
 }
