@@ -24,15 +24,15 @@ pub enum KernelReason {
     /// The globals so far, or a type that the item uses, take more bytes than the limit.
     #[error("K6")]
     K6,
-    /// A data layout text with big endian numbers, 32-bit pointers or another alignment of `i64`.
+    /// A data layout text with big endian numbers, or with another size or alignment of pointers, of an integer of 8, 16, 32 or 64 bits or
+    /// of aggregates than is used.
     #[error("K7")]
     K7,
     /// A name of a register, block, function, global or range that nothing defines, or a call of a declared function
     /// that is neither void nor a listed intrinsic.
     #[error("K8")]
     K8,
-    /// A type or an operand that its instruction does not take, and, until kernels of every kind have their meaning,
-    /// whatever is no part of a thin kernel.
+    /// A type, an operand, a literal or a head of a function that does not fit where it stands.
     #[error("K9")]
     K9,
     /// The blocks have a cycle, or an edge goes to the first block.
