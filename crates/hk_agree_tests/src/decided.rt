@@ -10,11 +10,10 @@ ghost use Rattle.spec_tree.specs.View.{view_spec};
 ghost use Rattle.hk_case.specs.Obligations.{IsObligation, obligations_of};
 ghost use Rattle.hk_decide.specs.Right.{IsRefuted};
 
-use crate::inputs::Inputs;
-use crate::owed::owed_by;
 use hk_case::{Case, Obligation};
 use hk_decide::decide;
 use hk_exhaust::{case_bits, find_in_all, violates};
+use hk_inputs::{Inputs, owed_by};
 use hk_proof::Proof;
 use hk_verdict::Verdict;
 use ir_kernel::Kernel;

@@ -6,14 +6,12 @@
 #![tactic(auto)]
 
 mod decided;
-mod inputs;
-mod owed;
 mod tally;
 
 use crate::decided::{Decided, decide_both};
-use crate::inputs::read;
 use crate::tally::Tally;
 use hk_draw::{Shape, Texts, draw};
+use hk_inputs::read;
 use std::alloc::{AllocError, Global};
 use std::{env, io};
 

@@ -14,10 +14,10 @@ ghost use Rattle.hk_decide.specs.Right.{IsSmall};
 ghost use Rattle.hk_check.specs.Told.{AreFew};
 
 use crate::found::{Found, found_of};
-use crate::owed::owed_by;
 use hk_case::Obligation;
 use hk_check::check;
 use hk_exhaust::case_bits;
+use hk_inputs::owed_by;
 use hk_proof::{Proof, ProofList};
 use ir_kernel::Kernel;
 use spec_tree::Spec;

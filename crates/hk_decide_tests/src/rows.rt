@@ -6,12 +6,13 @@ ghost use Rattle.spec_kernel.specs.Fit.{FitsModule};
 ghost use Rattle.spec_tree.specs.Sorted.{IsWellSorted};
 ghost use Rattle.spec_tree.specs.View.{view_spec};
 
+use crate::asked::asked;
 use crate::changes::change_of;
 use crate::checks::{told_by_cases, told_of_changed, told_of_second};
 use crate::found::told_text;
-use crate::inputs::{Inputs, read_both};
-use crate::texts::{Text, add_line, begin, text_named};
+use crate::inputs::read_both;
 use crate::verdicts::{opening_told, seen_of, seen_text};
+use hk_inputs::{Inputs, Text, add_line, begin, text_named};
 use std::alloc::{AllocError, Global};
 
 /// A budget, 1 where the word is none.
@@ -55,6 +56,9 @@ fn told_of(alloc: Global, inputs: &Inputs, words: &[&str]) -> Result<Option<Stri
             seen_text(alloc, seen_of(alloc, inputs, budget_of(budget), true)?)?
         }
         ["check", rest @ ..] => return checked(alloc, inputs, rest),
+        ["ask", place, name, call @ ..] => {
+            return asked(alloc, inputs, place_of(place), name, call);
+        }
         ["other", budget] => {
             told_text(alloc, told_of_second(alloc, inputs, budget_of(budget))?)?
         }

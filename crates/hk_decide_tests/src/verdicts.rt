@@ -6,9 +6,9 @@ ghost use Rattle.spec_kernel.specs.Fit.{FitsModule};
 ghost use Rattle.spec_tree.specs.Sorted.{IsWellSorted};
 ghost use Rattle.spec_tree.specs.View.{view_spec};
 
-use crate::inputs::Inputs;
 use hk_case::Obligation;
 use hk_decide::{decide, open};
+use hk_inputs::Inputs;
 use hk_proof::Proof;
 use hk_verdict::{InitVerdict, Verdict};
 use std::alloc::{AllocError, Global};

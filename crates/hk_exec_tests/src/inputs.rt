@@ -11,7 +11,7 @@ use std::alloc::{AllocError, Global};
 const LIMIT: u32 = 16_777_216;
 
 /// The kernel of a text, where it is one.
-pub fn kernel_of(alloc: Global, text: &[u8]) -> Option<Kernel>
+fn kernel_of(alloc: Global, text: &[u8]) -> Option<Kernel>
     requires { length text.now < 2 ^ 31 }
 {
     match read_module(alloc, text) {

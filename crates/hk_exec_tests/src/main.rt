@@ -5,24 +5,33 @@
 //! arguments and states. A line tells whether the terms say of each run what it came to: that it is stuck, or the number that it
 //! returns and every byte of the memory behind it. With `read`, `bytes` or `cells` in place of a number the texts are only read, or
 //! only executed, and a line tells how many terms were made (`bench/execute.sh`).
+//!
+//! In place of a file, `-` stands for the rows of standard input. A line that is empty or begins with `#` is printed as it is. Any other
+//! is a row of fields between bars; it is printed with its answer behind, or, if it is out of form, behind a `?`.
+//!
+//! - `bytes | FILE | VALUATION`, `cells | FILE | VALUATION`: what the terms of a text's first function say over memory by bytes, or by
+//!   cells, under a valuation: `stuck`, or what the first part of each of the first two objects holds behind the run, 0 where there is
+//!   none. The argument k is the variable k, and the entries of the array k are the first bytes or cells of the object k.
+//! - `sizes | FILE`: the size of the cells of each object.
+//! - `descriptor | FILE`: how many entries of arrays a read of 4 bytes of the object 1 takes at 20 * p + 4 * d + 4, for any p and d.
+//!
+//! What the rows expect was found by hand.
 #![tactic(auto)]
 
-#[cfg(test)]
-mod cell_tests;
+mod cells;
 mod compared;
 mod executed;
 mod functions;
 mod inputs;
 mod random;
-#[cfg(test)]
-mod row_tests;
-#[cfg(test)]
-mod row_texts;
+mod rows;
+mod single;
 mod states;
 mod told;
 
 use crate::functions::subjects;
 use crate::inputs::load_kernel;
+use crate::rows::told_row;
 use crate::told::{Mode, tell};
 use hk_io::FolderShelf;
 use ir_kernel::Kernel;
@@ -74,6 +83,16 @@ fn text_of(
     }
 }
 
+/// Prints the rows of standard input.
+fn tell_rows(rt: HostRuntime, shelf: &mut FolderShelf) -> io::Result<()> {
+    for row in rt.lines(rt.alloc()) {
+        let row = row?;
+        let told = told_row(rt.alloc(), shelf, row.as_str())?;
+        println!(rt; "{told}")?;
+    }
+    Ok(())
+}
+
 fn main(rt: HostRuntime) -> io::Result<()> {
     let mut words = Vec::new(rt.alloc());
     for word in env::args(&rt)? {
@@ -82,8 +101,12 @@ fn main(rt: HostRuntime) -> io::Result<()> {
     let mode = mode_in(&words);
     let mut shelf = FolderShelf::new(rt);
     for name in words.iter().skip(2) {
-        let text = text_of(rt.alloc(), &mut shelf, name, mode)?;
-        print!(rt; "{text}")?;
+        if name.as_str() == "-" {
+            tell_rows(rt, &mut shelf)?;
+        } else {
+            let text = text_of(rt.alloc(), &mut shelf, name, mode)?;
+            print!(rt; "{text}")?;
+        }
     }
     Ok(())
 }

@@ -6,9 +6,9 @@ ghost use Rattle.spec_tree.specs.Sorted.{IsWellSorted};
 ghost use Rattle.spec_tree.specs.View.{view_spec};
 
 use crate::compared::Looked;
-use crate::inputs::Inputs;
 use crate::parts::Part;
 use crate::trials::tried;
+use hk_inputs::Inputs;
 use spec_ast::Name;
 use spec_tree::{Named, Spec};
 use std::alloc::{AllocError, Global};

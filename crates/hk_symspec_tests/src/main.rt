@@ -28,8 +28,9 @@ ghost use Rattle.spec_kernel.specs.Fit.{FitsModule};
 ghost use Rattle.spec_tree.specs.Sorted.{IsWellSorted};
 ghost use Rattle.spec_tree.specs.View.{view_spec};
 
-use crate::inputs::{Inputs, generated, load};
+use crate::inputs::{generated, load};
 use crate::lines::lines_of;
+use hk_inputs::Inputs;
 use hk_io::FolderShelf;
 use std::alloc::{AllocError, Global};
 use std::{env, io};

@@ -1,6 +1,6 @@
 use Rattle.std.proofs.Common.{rules, ◌<◌, length}
 use Rattle.spec_tree.specs.View.{view_spec}
-use Rattle.hk_agree_tests.proofs.Owing.{owed_at}
+use Rattle.hk_inputs.proofs.Owing.{owed_at}
 use Rattle.hk_agree_tests.proofs.decided.by_cases.Goals as goal
 
 pub try_cases-requires-clause-owed : goal.try_cases-requires-clause-owed

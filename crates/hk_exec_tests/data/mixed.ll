@@ -1,0 +1,1 @@
+@mixed = global { i8, i32 } zeroinitializer, align 4
