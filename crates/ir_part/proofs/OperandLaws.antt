@@ -1,5 +1,5 @@
 -- An operand is read exactly where it is spelled at its type.
-use Rattle.std.proofs.Common.{◌≡◌, ℕ, zero, suc, ◌<◌, ◌≤◌, Bool, true, false, ℤ, pos, Option, Some, None, List, [], ◌∷◌, ◌++◌, refl, sym, ◌∙◌, ap, subst, inl, inr, append_assoc, arith}
+use Rattle.std.proofs.Common.{◌≡◌, ℕ, zero, suc, ◌<◌, ◌≤◌, Bool, true, false, ℤ, pos, Option, Some, None, List, [], ◌∷◌, ◌++◌, refl, sym, ◌∙◌, ap, subst, ◌⊎◌, inl, inr, append_assoc, arith}
 use Rattle.std.specs.Prelude.{if◌then◌else◌, codes, bytes_eq}
 use Rattle.std.proofs.lemmas.Bool.{eqb-true}
 use Rattle.ir_ast.specs.Plain.{Ty, nothing, integer, pointer, array, structure, packed, named, opaque, Val, local, global, number, null, poison, address, Form, form, Indices, no_indices, index_and}
@@ -60,24 +60,33 @@ flag_complete text same false front rest none s = ap (λ us. flag_at text (us ++
 
 -- ---- the flags of an address form
 
+abbrev pub bounds_pair : Flags → List Tok → Flags × List Tok
+bounds_pair flags ts = (flags, ts)
+
+bounds_shape : (ts t1 t2 : List Tok) (inbounds nuw : Bool) (x : Flags) (rest : List Tok) → Takes (IsOptional (codes "inbounds")) ts inbounds t1 → Takes (IsOptional (codes "nuw")) t1 nuw t2
+    → is_bounded inbounds nuw ≡ true → bounds_pair (offset_flags inbounds nuw) t2 ≡ (x, rest) → Takes SpellsBounds ts x rest
+bounds_shape ts t1 t2 inbounds nuw x rest first second bounded e =
+    record {
+      front = first.front ++ second.front;
+      spelled = (inbounds, nuw, first.front, second.front, first.spelled, second.spelled, bounded, sym (ap (λ q. q.0) e), refl);
+      parts = first.parts ∙ ap (λ us. first.front ++ us) (second.parts ∙ ap (λ q. second.front ++ q.1) e) ∙ sym (append_assoc first.front second.front rest);
+    }
+
+abbrev pub bounds_end : Bool → Bool × List Tok → Option (Flags × List Tok)
+bounds_end inbounds g = if is_bounded inbounds g.0 then Some (offset_flags inbounds g.0, g.1) else None
+
 bounds_sound : IsSound SpellsBounds bounds_at
 bounds_sound ts x rest h =
-    let f = bound (flag_at (codes "inbounds") ts) (λ (f : Bool × List Tok). flag_at (codes "nuw") f.1 >>= (λ (g : Bool × List Tok). if is_bounded f.0 g.0 then Some (offset_flags f.0 g.0, g.1) else None)) (x, rest) h in
-    let g = bound (flag_at (codes "nuw") f.value.1) (λ (g : Bool × List Tok). if is_bounded f.value.0 g.0 then Some (offset_flags f.value.0 g.0, g.1) else None) (x, rest) f.rest in
-    let first = flag_sound (codes "inbounds") ts f.value.0 f.value.1 f.was in
-    let second = flag_sound (codes "nuw") f.value.1 g.value.0 g.value.1 g.was in
-    elim (if_some (is_bounded f.value.0 g.value.0) (Some (offset_flags f.value.0 g.value.0, g.value.1)) None (x, rest) g.rest) [
-      | inl p ↦ (let e : (offset_flags f.value.0 g.value.0, g.value.1) ≡ (x, rest) = some_is p.1 in
-          record {
-            front = first.front ++ second.front;
-            spelled = (f.value.0, g.value.0, first.front, second.front, first.spelled, second.spelled, p.0, sym (ap (λ q. q.0) e), refl);
-            parts = first.parts ∙ ap (λ us. first.front ++ us) (second.parts ∙ ap (λ q. second.front ++ q.1) e) ∙ sym (append_assoc first.front second.front rest);
-          })
-      | inr p ↦ absurd (never_none p.1)
-    ]
+    let f = bound (flag_at (codes "inbounds") ts) (λ (f : Bool × List Tok). flag_at (codes "nuw") f.1 >>= bounds_end f.0) (x, rest) h in
+    let g = bound (flag_at (codes "nuw") f.value.1) (bounds_end f.value.0) (x, rest) f.rest in
+    ends (flag_sound (codes "inbounds") ts f.value.0 f.value.1 f.was) (flag_sound (codes "nuw") f.value.1 g.value.0 g.value.1 g.was)
+    (if_some (is_bounded f.value.0 g.value.0) (Some (offset_flags f.value.0 g.value.0, g.value.1)) None (x, rest) g.rest)
   where
-    never_none : None ≡ Some (x, rest) → ⊥
-    never_none e = cc
+    ends : {t1 t2 : List Tok} {inbounds nuw : Bool} → Takes (IsOptional (codes "inbounds")) ts inbounds t1 → Takes (IsOptional (codes "nuw")) t1 nuw t2
+        → ((is_bounded inbounds nuw ≡ true) × (Some (bounds_pair (offset_flags inbounds nuw) t2) ≡ Some (bounds_pair x rest))) ⊎ ((is_bounded inbounds nuw ≡ false) × (None ≡ Some (bounds_pair x rest)))
+        → Takes SpellsBounds ts x rest
+    ends {t1} {t2} {inbounds} {nuw} first second (inl p) = bounds_shape ts t1 t2 inbounds nuw x rest first second p.0 (some_is p.1)
+    ends first second (inr p) = (let wrong = p.1 in cc)
 
 no_inbounds_by : (b : Bool) (front rest : List Tok) → IsOptional (codes "nuw") b front → after_word (codes "inbounds") rest ≡ None → after_word (codes "inbounds") (front ++ rest) ≡ None
 no_inbounds_by true front rest s none = ap (λ us. after_word (codes "inbounds") (us ++ rest)) s
