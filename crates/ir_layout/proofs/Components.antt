@@ -1,5 +1,5 @@
 -- A layout text has a bad component where one is found byte by byte.
-use Rattle.std.proofs.Common.{◌≡◌, ◌≤◌, ◌+◌, ◌⊎◌, inl, inr, ℕ, suc, Bool, true, false, ◌&&◌, ◌||◌, List, [], ◌∷◌, refl, sym, ◌∙◌, ap, subst, arith, take, drop, length}
+use Rattle.std.proofs.Common.{◌≡◌, ◌≤◌, ◌+◌, ◌⊎◌, inl, inr, ℕ, zero, suc, Bool, true, false, ◌&&◌, ◌||◌, List, [], ◌∷◌, refl, sym, ◌∙◌, ap, subst, arith, take, drop, length}
 use Rattle.std.specs.Prelude.{◌==◌, if◌then◌else◌, not, take_while}
 use Rattle.std.specs.List.{Contains}
 use Rattle.std.proofs.lemmas.Bool.{or_cases, or_left, or_right, and_parts, and_from, cases_Bool, false≢true, cond-true, cond-false}
@@ -11,16 +11,18 @@ use Rattle.ir_layout.proofs.Anyhow.{here, behind, split}
 -- so many elements from the front as pass the test are those
 pub taken : (test : ℕ → Bool) (bs : List ℕ) → take (length (take_while test bs)) bs ≡ take_while test bs
 taken test [] = refl
-taken test (b ∷ bs) = subst (λ cs. take (length cs) (b ∷ bs) ≡ cs) (sym (take_while-cons test b bs)) (pick (test b))
+taken test (b ∷ bs) = subst (λ cs. take (length cs) (b ∷ bs) ≡ cs) (sym (take_while-cons test b bs)) (pick (test b) (taken test bs))
   where
-    pick : (c : Bool) → take (length (if c then b ∷ take_while test bs else [])) (b ∷ bs) ≡ (if c then b ∷ take_while test bs else [])
-    pick true = ap (λ cs. b ∷ cs) (taken test bs)
-    pick false = refl
+    pick : (c : Bool) → take (length (take_while test bs)) bs ≡ take_while test bs
+        → take (length (if c then b ∷ take_while test bs else [])) (b ∷ bs) ≡ (if c then b ∷ take_while test bs else [])
+    pick true e = ap (λ cs. b ∷ cs) e
+    pick false e = refl
 
 -- nothing is left behind the end
 pub past_end : (n : ℕ) (bs : List ℕ) → length bs ≤ n → drop n bs ≡ []
-past_end n [] few = refl
-past_end 0 (b ∷ bs) few = absurd (omega (arith, few))
+past_end zero [] few = refl
+past_end (suc n) [] few = refl
+past_end zero (b ∷ bs) few = absurd (omega (arith, few))
 past_end (suc n) (b ∷ bs) few = past_end n bs (omega (arith, few))
 
 -- the first component, and those behind it

@@ -6,7 +6,7 @@ use Rattle.std.proofs.lemmas.Nat.{pow_pos}
 use Rattle.std.proofs.Math.IntN.{neg_ℤ, pos-*ℤ-pos, negsuc-*ℤ-pos}
 use Rattle.std.proofs.Math.Nat.{mod-eq_of_lt, add-mul, mul-zero, mul-le-mul_right}
 use Rattle.std.proofs.Math.Pow.{pow_mono}
-use Rattle.std.proofs.lemmas.Bool.{le-leb, lt-leb, le-ltb, leb-true, ltb-true, and_parts, cases_lt, false≢true}
+use Rattle.std.proofs.lemmas.Bool.{le-leb, lt-leb, le-ltb, leb-true, ltb-true, and_parts, cases_lt, ne_eqb, false≢true}
 use Rattle.hk_num.specs.Numbers.{signed_of, number_of, sign_extend, bvslt}
 use Rattle.hk_num.proofs.Readings.{reading_low, reading_high, halves}
 use Rattle.ir_value.specs.declared.value.Value.{Value}
@@ -76,6 +76,18 @@ nowhere x k size fits inside =
     let within : x + 0 ≤ size = inside_of size (x + 0) (subst (λ z. is_within size (pos x +ℤ z) ≡ true) none inside) in
     ap (λ p. nat_le (2 ^ 64) p || nat_le (2 ^ 64) (x + p)) (mul-zero (number_of 64 (negsuc k))) ∙ stays_low x 0 (omega (arith, within, fits))
 
+some_bytes : (k e : ℕ) → 1 ≤ suc k * suc e
+some_bytes k e = omega (arith, mul-le-mul_right {m = 1} {n = suc k} (suc e) (omega arith))
+
+product_back : (k e : ℕ) → negsuc k *ℤ pos (suc e) ≡ negsuc (suc k * suc e - 1)
+product_back k e =
+    let some : 1 ≤ suc k * suc e = some_bytes k e in
+    let bytes : suc k * suc e ≡ suc (suc k * suc e - 1) = omega (arith, some) in
+    negsuc-*ℤ-pos k (suc e) ∙ ap (λ n. neg_ℤ (pos n)) bytes
+
+goes_back_there : (k e : ℕ) → goes_back (negsuc k) (suc e) ≡ true
+goes_back_there k e = ap (λ b. not b && true) (ne_eqb (suc e) 0 (omega arith))
+
 -- so many bytes back stay inside where there are as many before the start
 backed : (x j size : ℕ) → is_within size (pos x +ℤ negsuc j) ≡ true → j < x
 backed x j size inside = by (cases_lt j x)
@@ -94,17 +106,18 @@ backwards x k e size small inside =
     let u = number_of 64 (negsuc k) in
     let is : u ≡ 2 ^ 64 - suc k = omega (arith, small) in
     let j = suc k * suc e - 1 in
-    let some : 1 ≤ suc k * suc e = omega (arith, mul-le-mul_right (suc e) {n = 1} {m = suc k} (omega arith)) in
-    let product : negsuc k *ℤ pos (suc e) ≡ negsuc j = negsuc-*ℤ-pos k (suc e) ∙ ap (λ n. neg_ℤ (pos n)) (omega (arith, some)) in
+    let some : 1 ≤ suc k * suc e = some_bytes k e in
+    let product : negsuc k *ℤ pos (suc e) ≡ negsuc j = product_back k e in
     let before : j < x = backed x j size (subst (λ z. is_within size (pos x +ℤ z) ≡ true) product inside) in
-    let whole : 2 ^ 64 * suc e ≡ suc k * suc e + u * suc e = ap (λ n. n * suc e) (omega (arith, is, small)) ∙ add-mul (suc k) u (suc e) in
+    let both : 2 ^ 64 ≡ suc k + u = omega (arith, is, small) in
+    let whole : 2 ^ 64 * suc e ≡ suc k * suc e + u * suc e = ap (λ n. n * suc e) both ∙ add-mul (suc k) u (suc e) in
     let least : 2 ^ 64 ≤ 2 ^ 64 * suc e = omega arith in
     ap (λ b. nat_le (2 ^ 64) (u * suc e) || b) (le-leb (2 ^ 64) (x + u * suc e) (omega (arith, whole, least, before, some))) ∙ or_true (nat_le (2 ^ 64) (u * suc e))
 
 tests : (r : ℤ) (x each size : ℕ) → IsShort r → size < 2 ^ 64 → is_within size (pos x +ℤ (r *ℤ pos each)) ≡ true → goes_round x (number_of 64 r) each ≡ goes_back r each
 tests (pos m) x each size small fits inside = forwards x m each size small fits inside
 tests (negsuc k) x zero size small fits inside = nowhere x k size fits inside
-tests (negsuc k) x (suc e) size small fits inside = backwards x k e size small inside
+tests (negsuc k) x (suc e) size small fits inside = backwards x k e size small inside ∙ sym (goes_back_there k e)
 
 -- ---- the values
 
@@ -125,9 +138,8 @@ from_null each (pos m) =
     sym (ap (λ b. poison_or b (if is_no_move true (pos m *ℤ pos each) then Null else Poison)) (ap (λ b. not (each == 0) && b) (le-ltb m 0 (omega arith)) ∙ and_false (not (each == 0))))
 from_null zero (negsuc k) = refl
 from_null (suc e) (negsuc k) =
-    let some : 1 ≤ suc k * suc e = omega (arith, mul-le-mul_right (suc e) {n = 1} {m = suc k} (omega arith)) in
-    let product : negsuc k *ℤ pos (suc e) ≡ negsuc (suc k * suc e - 1) = negsuc-*ℤ-pos k (suc e) ∙ ap (λ n. neg_ℤ (pos n)) (omega (arith, some)) in
-    ap (λ z. if is_no_move true z then Null else Poison) product
+    let none : (if is_no_move true (negsuc k *ℤ pos (suc e)) then Null else Poison) ≡ Poison = ap (λ z. if is_no_move true z then Null else Poison) (product_back k e) in
+    subst (λ v. v ≡ poison_or (goes_back (negsuc k) (suc e)) v) (sym none) (always_poison false (goes_back (negsuc k) (suc e)))
 
 -- an index that is a number of the width
 indexed : (size w each n : ℕ) (v : Value) → size < 2 ^ 64 → 1 ≤ w → w ≤ 64 → n < 2 ^ w
