@@ -273,9 +273,9 @@ flagged_is inbounds nuw pi size w each bi xi v m fits some most e = by pi (nat_e
         ∙ sym (λ i. (inbounds && nuw) && ((width i && f i) && (not (each == 0) && bvslt w xi 0))) in
         (λ i. if told i then Poison else e i) ∙ sym (by_sign inbounds nuw size w each (Number xi) v fits)
 
-    by : (p zero one : Bool) → m ≡ signed_step inbounds size w each (if p then Poison else (if zero then Number xi else (if one then Null else Address (bi - 2) xi))) v
-        → (if test then Poison else m) ≡ step_of inbounds nuw size w each (if p then Poison else (if zero then Number xi else (if one then Null else Address (bi - 2) xi))) v
-    by true zero one e = poison_anyway test m e ∙ sym (no_index Poison refl)
-    by false true one e = number (is_number w xi) refl e
+    by : (p first second : Bool) → m ≡ signed_step inbounds size w each (if p then Poison else (if first then Number xi else (if second then Null else Address (bi - 2) xi))) v
+        → (if test then Poison else m) ≡ step_of inbounds nuw size w each (if p then Poison else (if first then Number xi else (if second then Null else Address (bi - 2) xi))) v
+    by true first second e = poison_anyway test m e ∙ sym (no_index Poison refl)
+    by false true second e = number (is_number w xi) refl e
     by false false true e = poison_anyway test m e ∙ sym (no_index Null refl)
     by false false false e = poison_anyway test m e ∙ sym (no_index (Address (bi - 2) xi) refl)

@@ -280,7 +280,7 @@ selected pc dc xc a b s q r d e x y bit merged poison base bits =
 pub low_again : (w to a : ℕ) → is_narrower Trunc w to ≡ true → (a % 2 ^ to) % 2 ^ w ≡ a % 2 ^ to
 low_again w to a narrow =
     let less : to < w = ltb-true to w narrow in
-    mod-eq_of_lt (omega (arith, mod-lt a (pow_pos {m = 2} to), pow_mono {i = to} {j = w} (omega (arith, less))))
+    mod-eq_of_lt (omega (arith, mod-lt a (pow_pos to), pow_mono {i = to} {j = w} (omega (arith, less))))
 
 pub truncated : (f : Flags) (w to a : ℕ) (pa : Bool) (m : Value) → (a % 2 ^ to) % 2 ^ w ≡ a % 2 ^ to
     → m ≡ flagged ((pa || ((f.nuw && not (nat_eq ((a % 2 ^ to) % 2 ^ w) a)) || (f.nsw && not (nat_eq (sign_extend to w (a % 2 ^ to)) a)))) || false) (a % 2 ^ to)

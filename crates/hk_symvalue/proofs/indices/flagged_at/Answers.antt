@@ -1,4 +1,4 @@
-use Rattle.std.proofs.Common.{◌≡◌, ◌<◌, ◌^◌, ◌%◌, ◌||◌, ◌&&◌, ◌∙◌, ◌==◌, not, if◌then◌else◌, refl, sym, ap, rules, Bool, true, false}
+use Rattle.std.proofs.Common.{◌≡◌, ◌<◌, ◌^◌, ◌%◌, ◌||◌, ◌&&◌, ◌∙◌, ◌==◌, not, if◌then◌else◌, ap, rules, Bool}
 use Rattle.hk_term.specs.Meaning.{value}
 use Rattle.ir_value.specs.declared.value.Value.TheVariants.{Poison}
 use Rattle.ir_value.specs.Pointers.{signed_step}
