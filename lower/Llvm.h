@@ -98,20 +98,13 @@ inline bool isThreeWay(const llvm::IntrinsicInst &I, bool &Signed) {
 #endif
 }
 
-// Drops the promises of newer versions that the profile has no word for: `trunc nuw nsw`, `getelementptr nusw nuw`.
+// Drops the promises of newer versions that the profile has no word for: of a `getelementptr`, `nusw` and `nuw` without `inbounds`.
 inline bool dropNewPromises(llvm::Instruction &I) {
 #if LLVM_VERSION_MAJOR >= 19
-  if (auto *Trunc = llvm::dyn_cast<llvm::TruncInst>(&I))
-    if (Trunc->hasNoUnsignedWrap() || Trunc->hasNoSignedWrap()) {
-      Trunc->dropPoisonGeneratingFlags();
-      return true;
-    }
-  if (auto *Address = llvm::dyn_cast<llvm::GetElementPtrInst>(&I)) {
-    llvm::GEPNoWrapFlags Plain = Address->isInBounds() ? llvm::GEPNoWrapFlags::inBounds() : llvm::GEPNoWrapFlags::none();
-    if (Address->getNoWrapFlags() != Plain) {
-      Address->setNoWrapFlags(Plain);
-      return true;
-    }
+  auto *Address = llvm::dyn_cast<llvm::GetElementPtrInst>(&I);
+  if (Address && !Address->isInBounds() && Address->getNoWrapFlags() != llvm::GEPNoWrapFlags::none()) {
+    Address->setNoWrapFlags(llvm::GEPNoWrapFlags::none());
+    return true;
   }
 #else
   (void)I;
