@@ -35,7 +35,7 @@ looping =
             name = (codes "h");
             instrs =
                 (record { line = 5; result = Some (codes "i"); act = phi (integer 8) (((number (pos 0)), (codes "0")) ∷ ((local (codes "j")), (codes "b")) ∷ []) }
-                ∷ record { line = 6; result = Some (codes "c"); act = compare Ult (integer 8) (local (codes "i")) (number (pos 3)) }
+                ∷ record { line = 6; result = Some (codes "c"); act = compare false Ult (integer 8) (local (codes "i")) (number (pos 3)) }
                 ∷ record { line = 7; result = None; act = branch (local (codes "c")) (codes "b") (codes "e") }
                 ∷ []);
           }
@@ -84,7 +84,7 @@ some_rebuilt : rebuilt loops ≡
             name = (codes "h");
             instrs =
                 (record { line = 5; result = Some (codes "i"); act = phi (integer 8) (((number (pos 0)), (codes "0")) ∷ []) }
-                ∷ record { line = 6; result = Some (codes "c"); act = compare Ult (integer 8) (local (codes "i")) (number (pos 3)) }
+                ∷ record { line = 6; result = Some (codes "c"); act = compare false Ult (integer 8) (local (codes "i")) (number (pos 3)) }
                 ∷ record { line = 7; result = None; act = branch (local (codes "c")) (codes "b") (codes "e") }
                 ∷ []);
           }
@@ -113,7 +113,7 @@ some_rebuilt : rebuilt loops ≡
             name = (block_name 0 (at 1 1));
             instrs =
                 (record { line = 5; result = Some (register_name 0 1 0); act = phi (integer 8) (((local (codes "j")), (codes "b")) ∷ []) }
-                ∷ record { line = 6; result = Some (register_name 0 1 1); act = compare Ult (integer 8) (local (register_name 0 1 0)) (number (pos 3)) }
+                ∷ record { line = 6; result = Some (register_name 0 1 1); act = compare false Ult (integer 8) (local (register_name 0 1 0)) (number (pos 3)) }
                 ∷ record { line = 7; result = None; act = branch (local (register_name 0 1 1)) (block_name 0 (at 1 2)) (block_name 0 (at 1 3)) }
                 ∷ []);
           }

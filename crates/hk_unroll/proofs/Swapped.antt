@@ -38,7 +38,7 @@ looping =
                 ∷ record { line = 5; result = Some (codes "b"); act = phi (integer 8) (((local (codes "y")), (codes "0")) ∷ ((local (codes "a")), (codes "h")) ∷ []) }
                 ∷ record { line = 6; result = Some (codes "i"); act = phi (integer 8) (((number (pos 0)), (codes "0")) ∷ ((local (codes "j")), (codes "h")) ∷ []) }
                 ∷ record { line = 7; result = Some (codes "j"); act = binary Add no_flags 8 (local (codes "i")) (number (pos 1)) }
-                ∷ record { line = 8; result = Some (codes "c"); act = compare Eq (integer 8) (local (codes "i")) (number (pos 1)) }
+                ∷ record { line = 8; result = Some (codes "c"); act = compare false Eq (integer 8) (local (codes "i")) (number (pos 1)) }
                 ∷ record { line = 9; result = None; act = branch (local (codes "c")) (codes "e") (codes "h") }
                 ∷ []);
           }
@@ -81,7 +81,7 @@ some_rebuilt : rebuilt loops ≡
                 ∷ record { line = 5; result = Some (codes "b"); act = phi (integer 8) (((local (codes "y")), (codes "0")) ∷ []) }
                 ∷ record { line = 6; result = Some (codes "i"); act = phi (integer 8) (((number (pos 0)), (codes "0")) ∷ []) }
                 ∷ record { line = 7; result = Some (codes "j"); act = binary Add no_flags 8 (local (codes "i")) (number (pos 1)) }
-                ∷ record { line = 8; result = Some (codes "c"); act = compare Eq (integer 8) (local (codes "i")) (number (pos 1)) }
+                ∷ record { line = 8; result = Some (codes "c"); act = compare false Eq (integer 8) (local (codes "i")) (number (pos 1)) }
                 ∷ record { line = 9; result = None; act = branch (local (codes "c")) (codes "e") (block_name 0 (at 1 1)) }
                 ∷ []);
           }
@@ -105,7 +105,7 @@ some_rebuilt : rebuilt loops ≡
                 ∷ record { line = 5; result = Some (register_name 0 1 3); act = phi (integer 8) (((local (codes "a")), (codes "h")) ∷ []) }
                 ∷ record { line = 6; result = Some (register_name 0 1 4); act = phi (integer 8) (((local (codes "j")), (codes "h")) ∷ []) }
                 ∷ record { line = 7; result = Some (register_name 0 1 5); act = binary Add no_flags 8 (local (register_name 0 1 4)) (number (pos 1)) }
-                ∷ record { line = 8; result = Some (register_name 0 1 6); act = compare Eq (integer 8) (local (register_name 0 1 4)) (number (pos 1)) }
+                ∷ record { line = 8; result = Some (register_name 0 1 6); act = compare false Eq (integer 8) (local (register_name 0 1 4)) (number (pos 1)) }
                 ∷ record { line = 9; result = None; act = branch (local (register_name 0 1 6)) (block_name 0 (at 1 2)) (end_name 0) }
                 ∷ []);
           }
