@@ -1,0 +1,5 @@
+pub mod FrameLaws
+pub mod ContextLaws
+pub mod TupleLaws
+pub mod WalkLaws
+pub mod TruthLaws

@@ -1,0 +1,4 @@
+pub mod Frames
+pub mod Contexts
+pub mod Views
+pub mod Tuples
