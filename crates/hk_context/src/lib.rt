@@ -10,8 +10,8 @@ mod facts;
 mod ops;
 mod room;
 mod scope;
-mod simplified;
+mod top;
 mod view;
 mod walk;
 
-pub use simplified::simplified;
+pub use top::simplified;

@@ -1,7 +1,7 @@
 //! The constructors of terms, by kind, with what they leave as one clause.
 #![tactic(auto, using(crate::proofs::FrameLaws::followed))]
 
-ghost use Rattle.std.specs.Prelude.{◌≡◌, ℕ, ◌+◌, ◌-◌, ◌^◌, ◌<◌, ◌≤◌, suc, length, IfOk, nat_eq, if◌then◌else◌};
+ghost use Rattle.std.specs.Prelude.{◌≡◌, ℕ, ◌+◌, ◌-◌, ◌%◌, ◌^◌, ◌<◌, ◌≤◌, suc, length, IfOk, nat_eq, if◌then◌else◌};
 ghost use Rattle.hk_term.specs.Operations.{bit, unary_value, binary_value, binary_width, BinaryFits, resize_value, ResizeFits};
 ghost use Rattle.hk_term.specs.Shape.{IsWidth, width};
 ghost use Rattle.hk_term.specs.Meaning.{Reading, every_tuple, value};

@@ -19,7 +19,7 @@ pub(crate) enum View {
 }
 
 /// A term taken apart.
-pub(crate) fn view(alloc: Global, t: &Terms, a: TermId) -> Result<View, AllocError>
+pub(crate) fn taken_apart(alloc: Global, t: &Terms, a: TermId) -> Result<View, AllocError>
     requires { a < length t.now }
     ensures { IfOk result (IsView t.now a) }
 {

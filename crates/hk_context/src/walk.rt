@@ -18,7 +18,7 @@ use crate::compare::{equal, less};
 use crate::ops::{binary, choose, for_all, resize, select, sized, unary};
 use crate::room::{Room, empty, fixed, store};
 use crate::scope::{inside, told};
-use crate::view::{View, view};
+use crate::view::{View, taken_apart};
 use hk_range::Known;
 use hk_term::{BoundList, TermId, TermKind, TermResize, Terms, UnaryKind};
 use std::alloc::{AllocError, Global};
@@ -72,7 +72,7 @@ fn anew(
     ensures stands { IfOk result (λ r. Stands t.old s.now.known.now t.new r a) }
     ensures keeps { Keeps t.old t.new }
 {
-    match view(s.alloc, t, a)? {
+    match taken_apart(s.alloc, t, a)? {
         View::Leaf => Ok(a),
         View::Entry(array, w, index) => entry(s, t, room, a, array, w, index),
         View::Unary(kind, x) => unary_anew(s, t, room, a, kind, x),

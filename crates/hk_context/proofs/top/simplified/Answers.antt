@@ -1,5 +1,5 @@
 use Rattle.hk_context.proofs.ContextLaws.{there_nothing, knows_nothing}
-use Rattle.hk_context.proofs.simplified.simplified.Goals as goal
+use Rattle.hk_context.proofs.top.simplified.Goals as goal
 
 pub empty-room-requires : goal.empty-room-requires
 empty-room-requires c = there_nothing c.args.t.now c.nothing-known.result.facts.items c.nothing-known.ensures.facts
