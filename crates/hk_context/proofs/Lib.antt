@@ -3,3 +3,4 @@ pub mod ContextLaws
 pub mod TupleLaws
 pub mod WalkLaws
 pub mod TruthLaws
+pub mod FoundLaws

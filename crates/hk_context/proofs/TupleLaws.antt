@@ -1,7 +1,7 @@
 -- Bodies that agree at all tuples below the sizes have equal quantifiers, and there bound variables are below their sizes.
 use Rattle.std.proofs.Common.{◌≡◌, ◌≢◌, ◌<◌, ◌≤◌, ◌⊎◌, ℕ, zero, suc, Bool, true, false, not, ◌&&◌, nat_eq, cond, List, [], ◌∷◌, length, get_or, refl, sym, ap, subst, ◌∙◌, arith, inl, inr, add-one}
 use Rattle.std.specs.List.{All}
-use Rattle.std.proofs.lemmas.Bool.{eqb-true, ne_eqb}
+use Rattle.std.proofs.lemmas.Bool.{eq-eqb, ne_eqb}
 use Rattle.std.proofs.lemmas.Bool.Decides.{eqb_tells}
 use Rattle.std.specs.Cmp.{first_so, second_so}
 use Rattle.hk_term.specs.Meaning.{Reading, every_below, every_tuple, with_var}
@@ -39,24 +39,14 @@ differ_same (b ∷ bs) id v u d (k, l, w) =
 
 pub within_below : (bs : List Bound) (v u : Reading) → are_apart bs ≡ true → IsWithin bs v u → AreBelow bs u
 within_below [] v u a w = λ k d l. absurd (omega (arith, l))
-within_below (b ∷ bs) v u a (n, l, w) = at
+within_below (b ∷ bs) v u a (n, l, w) = at head (within_below bs (with_var v b.id n) u (second_so (differ b.id bs) (are_apart bs) a) w)
   where
     head : u.var b.id < b.size
     head =
         let same : u.var b.id ≡ (with_var v b.id n).var b.id = differ_same bs b.id (with_var v b.id n) u (first_so (differ b.id bs) (are_apart bs) a) w in
-        let own : (with_var v b.id n).var b.id ≡ n = ap (λ t. cond t n (v.var b.id)) (self b.id) in
+        let own : (with_var v b.id n).var b.id ≡ n = ap (λ t. cond t n (v.var b.id)) (eq-eqb b.id b.id refl) in
         omega (arith, same, own, l)
-      where
-        self : (m : ℕ) → nat_eq m m ≡ true
-        self m = by (eqb_tells m m)
-          where
-            by : ((nat_eq m m ≡ true) × (m ≡ m)) ⊎ ((nat_eq m m ≡ false) × (m ≢ m)) → nat_eq m m ≡ true
-            by (inl p) = p.0
-            by (inr p) = absurd (p.1 refl)
 
-    tail : AreBelow bs u
-    tail = within_below bs (with_var v b.id n) u (second_so (differ b.id bs) (are_apart bs) a) w
-
-    at : AreBelow (b ∷ bs) u
-    at zero d h = head
-    at (suc k) d h = tail k d (omega (arith, h))
+    at : u.var b.id < b.size → AreBelow bs u → AreBelow (b ∷ bs) u
+    at first rest zero d h = first
+    at first rest (suc k) d h = rest k d (omega (arith, h))

@@ -33,8 +33,14 @@ pub(crate) fn equal(
 {
     let mut equations = Vec::new(alloc);
     match hk_range::equal(alloc, t, known, a, b, &mut equations)? {
-        Found::Unequal => number(t, 1, 0),
-        Found::Solved => all_of(t, equations.as_slice()),
+        Found::Unequal => {
+            let never = number(t, 1, 0)?;
+            Ok(never)
+        }
+        Found::Solved => {
+            let all = all_of(t, equations.as_slice())?;
+            Ok(all)
+        }
         Found::Open => binary(t, TermKind::Eq, a, b),
     }
 }

@@ -42,7 +42,8 @@ pub(crate) fn empty(alloc: Global, t: &Terms, known: &Known, steps: u64) -> Room
     ensures { IsContext t.now known.now result.made }
 {
     // For the proof: the clauses alone speak of the list and of what is known.
-    let _list = (t, known);
+    let _list = t;
+    let _known = known;
     Room {
         made: BTreeMap::new(alloc),
         steps,
@@ -63,7 +64,8 @@ pub(crate) fn store(
     ensures { OnOk result (IsContext t.now known.now room.new.made) }
 {
     // For the proof: the clauses alone speak of the list and of what is known.
-    let _list = (t, known);
+    let _list = t;
+    let _known = known;
     room.made.insert(a.place(), r)?;
     Ok(())
 }
