@@ -5,6 +5,7 @@ use Rattle.hk_term.specs.declared.node.Node.{Node}
 use Rattle.hk_range.specs.Ranges.{Knows, AreThere}
 use Rattle.hk_range.specs.declared.known.Known.{Known}
 use Rattle.hk_context.specs.Frames.{Keeps}
+use Rattle.hk_context.specs.Tuples.{IsWithin}
 use Rattle.hk_context.specs.Contexts.{Stands, IsContext}
 use Rattle.hk_context.proofs.FrameLaws.{followed}
 use Rattle.hk_context.proofs.ContextLaws.{context_kept, knows_kept, stands_self, stands_kept, stands_from, stands_then, stands_here}
@@ -48,7 +49,7 @@ binary_anew-joined-requires t c =
     let q : Stands old known end c.in_ok-q.q c.args.y =
     stands_from old mid end known c.in_ok-q.q c.args.y c.in_ok-p.ensures.keeps there (let h = c.requires.view.1 in omega (arith, h, c.requires.term)) c.in_ok-q.ensures.stands in (
       (let h = c.requires.view.0 in omega (arith, c.decreases, h)),
-      (p.within, q.within, binary_fits old end known c.args.kind c.args.x c.args.y c.in_ok-p.p c.in_ok-q.q c.requires.view.2 p q, c.in_ok-q.ensures.context),
+      (p.within, (q.within, (binary_fits old end known c.args.kind c.args.x c.args.y c.in_ok-p.p c.in_ok-q.q c.requires.view.2 p q, c.in_ok-q.ensures.context))),
     )
 
 pub binary_anew-returns-clause-stands : goal.binary_anew-returns-clause-stands
@@ -81,14 +82,7 @@ choice_anew-chosen-requires t c =
     let q : Stands old known end c.in_ok-q.q c.args.y =
     stands_from old mid end known c.in_ok-q.q c.args.y first there (let h = c.requires.view.2 in omega (arith, h, c.requires.term)) c.in_ok-q.ensures.stands in (
       (let h = c.requires.view.0 in omega (arith, c.decreases, h)),
-      (
-        o.within,
-        p.within,
-        q.within,
-        o.width_is ∙ c.requires.view.3,
-        p.width_is ∙ c.requires.view.4 ∙ sym q.width_is,
-        c.in_ok-q.ensures.context,
-      ),
+      (o.within, (p.within, (q.within, (o.width_is ∙ c.requires.view.3, (p.width_is ∙ c.requires.view.4 ∙ sym q.width_is, c.in_ok-q.ensures.context))))),
     )
 
 pub choice_anew-returns-clause-stands : goal.choice_anew-returns-clause-stands
@@ -113,7 +107,7 @@ choice_anew-returns-clause-stands t c =
 pub quantifier-returns-clause-stands : goal.quantifier-returns-clause-stands
 quantifier-returns-clause-stands t c =
     quantifier_stands c.args.t.now c.walk.new.t c.for_all.new.t c.args.s.now.known.now c.in_ok-known.known c.args.a c.args.bound c.args.body c.in_ok-made.made c.in_ok-all.all c.requires.view
-    (λ v u w. c.in_ok-known.ensures.holds v u w) c.in_ok-made.ensures.stands c.in_ok-all.ensures.within c.in_ok-all.ensures.width c.in_ok-all.ensures.value
+    (λ v u w. c.in_ok-known.ensures.holds v u (subst (λ bs. IsWithin bs v u) (sym c.as_slice.ensures) w)) c.in_ok-made.ensures.stands c.in_ok-all.ensures.within c.in_ok-all.ensures.width c.in_ok-all.ensures.value
 
 pub quantifier-returns-clause-context : goal.quantifier-returns-clause-context
 quantifier-returns-clause-context t c =
