@@ -163,8 +163,10 @@ fn a_component_of_a_layout_text_is_left_out(rt: HostRuntime) -> Result<(), Alloc
 }
 
 #[test]
-fn a_component_that_contradicts_the_layout_is_left_out(rt: HostRuntime) -> Result<(), AllocError> {
-    let table: [(&[u8], u32, u32); 65] = [
+fn a_pointer_component_that_contradicts_the_layout_is_left_out(
+    rt: HostRuntime,
+) -> Result<(), AllocError> {
+    let table: [(&[u8], u32, u32); 24] = [
         (b"target datalayout = \"p:32:32\"", 1, 7),
         (b"target datalayout = \"e-p:32\"", 1, 7),
         (b"target datalayout = \"e-p:320\"", 1, 7),
@@ -186,8 +188,21 @@ fn a_component_that_contradicts_the_layout_is_left_out(rt: HostRuntime) -> Resul
         (b"target datalayout = \"e-p270:32:32\"", 0, 0),
         (b"target datalayout = \"e-p\"", 0, 0),
         (b"target datalayout = \"e-p:\"", 0, 0),
-        (b"target datalayout = \"e-P1\"", 0, 0),
         (b"target datalayout = \"e-pf:32\"", 0, 0),
+        (b"target datalayout = \"e-p:16:16-i32:16-i64:16\"", 1, 7),
+        (b"target datalayout = \"e-p0:32:32-i64:16\"", 1, 7),
+    ];
+    for (text, line, reason) in &table {
+        assert_eq!(rt; shown(rt.alloc(), text), (*line, *reason));
+    }
+    Ok(())
+}
+
+#[test]
+fn an_integer_component_that_contradicts_the_layout_is_left_out(
+    rt: HostRuntime,
+) -> Result<(), AllocError> {
+    let table: [(&[u8], u32, u32); 23] = [
         (b"target datalayout = \"e-i64:32:64\"", 1, 7),
         (b"target datalayout = \"e-i64:64\"", 0, 0),
         (b"target datalayout = \"e-i64:3\"", 1, 7),
@@ -210,6 +225,18 @@ fn a_component_that_contradicts_the_layout_is_left_out(rt: HostRuntime) -> Resul
         (b"target datalayout = \"e-i24:8\"", 0, 0),
         (b"target datalayout = \"e-i64\"", 0, 0),
         (b"target datalayout = \"e-i64:\"", 0, 0),
+        (b"target datalayout = \"e-i64:16-p:64:64\"", 1, 7),
+    ];
+    for (text, line, reason) in &table {
+        assert_eq!(rt; shown(rt.alloc(), text), (*line, *reason));
+    }
+    Ok(())
+}
+
+#[test]
+fn another_component_is_told_by_its_letter(rt: HostRuntime) -> Result<(), AllocError> {
+    let table: [(&[u8], u32, u32); 18] = [
+        (b"target datalayout = \"e-P1\"", 0, 0),
         (b"target datalayout = \"e-a:0:64\"", 0, 0),
         (b"target datalayout = \"e-a0:0:64\"", 0, 0),
         (b"target datalayout = \"e-a:8\"", 0, 0),
@@ -227,9 +254,6 @@ fn a_component_that_contradicts_the_layout_is_left_out(rt: HostRuntime) -> Resul
         (b"target datalayout = \"e-S16\"", 0, 0),
         (b"target datalayout = \"e-n8:16\"", 0, 0),
         (b"target datalayout = \"e-Fi8\"", 0, 0),
-        (b"target datalayout = \"e-p:16:16-i32:16-i64:16\"", 1, 7),
-        (b"target datalayout = \"e-p0:32:32-i64:16\"", 1, 7),
-        (b"target datalayout = \"e-i64:16-p:64:64\"", 1, 7),
     ];
     for (text, line, reason) in &table {
         assert_eq!(rt; shown(rt.alloc(), text), (*line, *reason));
